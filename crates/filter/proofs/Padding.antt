@@ -16,11 +16,19 @@ use Rattle.filter.specs.Filter.{Filter, Notice, matches, covers, same, before,
 pub padded-is : (k n : ℕ) (xs : List ℕ) → n ≡ min (length xs) k → take n xs ++ drop n (replicate k 0) ≡ padded k xs
 padded-is k n xs e = same-lists _ _ (search (needs, places)) (λ i d h. grind (arith, places))
 
--- a row that is not too long, and then zeros
-pub padded-short : (k : ℕ) (xs : List ℕ) → length xs ≤ k → padded k xs ≡ xs ++ replicate (k - length xs) 0
-padded-short k xs h =
+pub length-padded : (k : ℕ) (xs : List ℕ) → length (padded k xs) ≡ k
+length-padded k xs = search (needs, places)
+
+-- a row that is not too long, written over the zeros
+pub padded-over : (k : ℕ) (xs : List ℕ) → length xs ≤ k → padded k xs ≡ xs ++ drop (length xs) (replicate k 0)
+padded-over k xs h =
     let p = padded-is k (length xs) xs (omega arith) in
     let t = take-all (length xs) xs (omega arith) in
+    cc
+
+pub padded-short : (k : ℕ) (xs : List ℕ) → length xs ≤ k → padded k xs ≡ xs ++ replicate (k - length xs) 0
+padded-short k xs h =
+    let p = padded-over k xs h in
     let d = drop-replicate {X = ℕ} (length xs) k 0 in
     cc
 

@@ -5,6 +5,3 @@ pub mod value;
 
 pub use value::Filter;
 pub use value::Notice;
-
-#[cfg(test)]
-mod tests;
