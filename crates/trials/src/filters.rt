@@ -1,8 +1,8 @@
 // The tests of filters on examples: the edges of ranges, empty ranges, rows of other lengths, and the order.
-use crate::Filter;
-use crate::Notice;
-use crate::in_place;
-use crate::value::FilterPartialEq;
+use filter::Filter;
+use filter::Notice;
+use filter::in_place;
+use filter::value::FilterPartialEq;
 use std::test::*;
 
 #[test]
