@@ -1,3 +1,4 @@
 pub mod Memory
 pub mod Opening
+pub mod Plan
 pub mod Refusal

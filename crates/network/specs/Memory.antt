@@ -1,9 +1,15 @@
--- How many words of memory a network takes, part by part.
+-- The memory of a network, part by part, and how many words it takes.
+use mathlib.Core.List.{List, [], _∷_}
 use Prim.Native.Nat.{ℕ, _+_, _-_, _*_}
+use Rattle.network.specs.Plan.{Plan, words-of}
 
 -- each broker's subscribers: a count, then a number and a filter for each
 abbrev pub subscribers-words : ℕ → ℕ → ℕ
 subscribers-words ranges subscribers = 1 + subscribers * (1 + 2 * ranges)
+
+-- the numbers of up to 4,096 notices, and their count: those that have arrived at a broker, and those posted
+abbrev pub notices-words : ℕ
+notices-words = 4097
 
 -- a table of filters: a count, then the filters. From each other broker there may be its subscribers' filters, and one more while a change is under way
 abbrev pub table-words : ℕ → ℕ → ℕ → ℕ
@@ -13,16 +19,22 @@ table-words ranges brokers subscribers = 1 + ((brokers - 1) * (subscribers + 1))
 abbrev pub channel-words : ℕ → ℕ → ℕ
 channel-words ranges messages = 2 + messages * (2 + 2 * ranges)
 
--- the numbers of up to 4,096 notices, and their count: those posted, and at each broker those that have arrived
-abbrev pub notices-words : ℕ
-notices-words = 4097
-
 -- up to 65,536 deliveries, a notice and a subscriber each, and their count
 abbrev pub deliveries-words : ℕ
 deliveries-words = 131073
 
--- for each direction of each link an announced table, a learned table and a channel
-abbrev pub words-needed : ℕ → ℕ → ℕ → ℕ → ℕ
-words-needed ranges brokers subscribers messages =
-    brokers * (subscribers-words ranges subscribers + notices-words) + (2 * (brokers - 1)) * (2 * table-words ranges brokers subscribers + channel-words ranges messages)
-    + notices-words + deliveries-words
+-- for each broker its subscribers and the notices that have arrived there; for each direction of each link an announced table, a learned table and a
+-- channel; then the posted notices and the deliveries
+abbrev pub plan : (ranges brokers subscribers messages : ℕ) → Plan
+plan ranges brokers subscribers messages =
+    record { many = brokers; size = subscribers-words ranges subscribers }
+    ∷ record { many = brokers; size = notices-words }
+    ∷ record { many = 2 * (brokers - 1); size = table-words ranges brokers subscribers }
+    ∷ record { many = 2 * (brokers - 1); size = table-words ranges brokers subscribers }
+    ∷ record { many = 2 * (brokers - 1); size = channel-words ranges messages }
+    ∷ record { many = 1; size = notices-words }
+    ∷ record { many = 1; size = deliveries-words }
+    ∷ []
+
+abbrev pub words-needed : (ranges brokers subscribers messages : ℕ) → ℕ
+words-needed ranges brokers subscribers messages = words-of (plan ranges brokers subscribers messages)
