@@ -1,0 +1,11 @@
+pub mod Members
+pub mod Order
+pub mod Some
+pub mod Covering
+pub mod Maximals
+pub mod Changes
+pub mod RowLaws
+pub mod Shifts
+pub mod Keeping
+pub mod TableLaws
+pub mod Mail
