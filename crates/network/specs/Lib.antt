@@ -1,4 +1,9 @@
+pub mod Example
 pub mod Memory
+pub mod Model
 pub mod Opening
 pub mod Plan
+pub mod Promise
+pub mod Promises
 pub mod Refusal
+pub mod Tree

@@ -1,7 +1,9 @@
-// The network: brokers in a tree, subscribers, and the commands that they take.
+// The network: brokers in a tree, subscribers, the commands that they take, and what is promised of every list of them.
 pub mod command;
+pub mod examples;
 pub mod memory;
 pub mod opening;
+pub mod promises;
 pub mod refusal;
 
 pub use command::Command;
