@@ -2,6 +2,10 @@
 #[cfg(test)]
 mod announcements;
 #[cfg(test)]
+mod brokers;
+#[cfg(test)]
+mod channels;
+#[cfg(test)]
 mod filters;
 #[cfg(test)]
 mod openings;

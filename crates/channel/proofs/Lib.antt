@@ -1,0 +1,5 @@
+pub mod Words
+pub mod Rows
+pub mod Turned
+pub mod Held
+pub mod Batches

@@ -1,0 +1,4 @@
+pub mod Message
+pub mod Ring
+pub mod Batch
+pub mod Laws
