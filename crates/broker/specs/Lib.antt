@@ -1,3 +1,4 @@
 pub mod Subscribers
 pub mod Announcing
+pub mod Forwarding
 pub mod Laws

@@ -1,5 +1,6 @@
 // A broker on examples: its subscribers at the edges of their room, who is reached, and what is to be announced.
 use broker::announcing;
+use broker::forwarding;
 use broker::subscribers;
 use broker::subscribers::AbsentDebug;
 use broker::subscribers::FullDebug;
@@ -58,4 +59,15 @@ fn a_neighbour_is_not_told_its_own() -> Result<(), Fail> {
     let mut out = [1; 7];
     announcing::to_announce(&own, &memory, &[5, 8], &[0, 3], 3, 5, 1, &mut out);
     check_eq(out, [2, 2, 5, 4, 7, 0, 0])
+}
+
+#[test]
+fn a_notice_goes_on_but_not_back() -> Result<(), Fail> {
+    let memory = [1, 0, 9, 1, 4, 7];
+    let mut out = [0; 2];
+    check_eq(
+        forwarding::goes_on(&memory, &[1, 2], &[0, 3], 3, 1, &[5], 1, &mut out),
+        1,
+    )?;
+    check_eq(out, [2, 0])
 }
