@@ -5,8 +5,9 @@ use Prim.Native.Nat.{ℕ, zero, suc, _+_, _-_, _*_, _≤_}
 use native.Mathlib.Omega.{arith}
 use borrow.Rule.Slice.PartMut.{putMid}
 use lib.ListN.{length, take, replicate, set}
-use Rattle.std.proofs.shelf.Lists.{drop-replicate, length-replicate, length-append, length-take, take-take, take-at}
+use Rattle.std.proofs.shelf.Lists.{drop-replicate, length-take, take-take, take-at}
 use Rattle.filter.specs.Filter.{padded}
+use Rattle.filter.proofs.Padding.{length-padded}
 use Rattle.channel.specs.declared.message.Message.{Message}
 use Rattle.channel.specs.declared.message.Message.the-variants.{Add, Cut, Notice as Post}
 use Rattle.channel.specs.Message.{words, message, Fitting}
@@ -22,8 +23,8 @@ put-over (suc (suc n)) kind number xs h =
     rw (e, ← d) refl
 
 -- the numbers of a filter, read back
-filter-back : (m k : ℕ) (bs : List ℕ) → take (2 + 2 * m - 2) (take (2 * m) bs) ≡ take (2 * m) bs
-filter-back m k bs =
+filter-back : (m : ℕ) (bs : List ℕ) → take (2 + 2 * m - 2) (take (2 * m) bs) ≡ take (2 * m) bs
+filter-back m bs =
     let e : 2 + 2 * m - 2 ≡ 2 * m = omega arith in
     rw e (take-take (2 * m) (2 * m) bs (omega arith))
 
@@ -33,16 +34,9 @@ notice-back m ns h =
     let e : 2 + m - 2 ≡ m = omega arith in
     rw e (take-at (take m ns) (replicate m 0) m (omega (arith, length-take m ns)))
 
-length-padded : (k : ℕ) (xs : List ℕ) → length (padded k xs) ≡ k
-length-padded k xs =
-    let a = length-take k (xs ++ replicate k 0) in
-    let b = length-append xs (replicate k 0) in
-    let c = length-replicate {A = ℕ} k 0 in
-    omega arith
-
 pub round-trip : (m : ℕ) (a : Message) → m ≤ 8 → Fitting m a → message m (words m a) ≡ a
-round-trip m (Add f) h e = ap (λ bs. Add (record { bounds = bs })) (ap (padded 16) (filter-back m 0 (f .bounds)) ∙ sym e)
-round-trip m (Cut f) h e = ap (λ bs. Cut (record { bounds = bs })) (ap (padded 16) (filter-back m 0 (f .bounds)) ∙ sym e)
+round-trip m (Add f) h e = ap (λ bs. Add (record { bounds = bs })) (ap (padded 16) (filter-back m (f .bounds)) ∙ sym e)
+round-trip m (Cut f) h e = ap (λ bs. Cut (record { bounds = bs })) (ap (padded 16) (filter-back m (f .bounds)) ∙ sym e)
 round-trip m (Post number notice) h e =
     let l : length (notice .numbers) ≡ 8 = ap length e ∙ length-padded 8 (take m (notice .numbers)) in
     ap (λ ns. Post number (record { numbers = ns })) (ap (padded 8) (notice-back m (notice .numbers) (omega arith)) ∙ sym e)

@@ -13,7 +13,7 @@ use Rattle.filter.specs.Filter.{Filter, same}
 use Rattle.cover.specs.Maximal.{among, put, maximal}
 use Rattle.cover.specs.Sorted.{sorted}
 use Rattle.cover.specs.Replay.{Between}
-use Rattle.cover.proofs.Members.{among-put, among-without}
+use Rattle.cover.proofs.Members.{among-put, among-without, among-left, among-right, among-parts}
 use Rattle.cover.proofs.Order.{sorted-maximal, sorted-length}
 use Rattle.cover.proofs.Maximals.{maximal-member}
 use Rattle.cover.proofs.Changes.{between-length}
@@ -22,7 +22,6 @@ use Rattle.network.specs.Model.{Subscriber, Message, add, cut, notice, after, 
 use Rattle.network.specs.Promise.{lasts, brokers-behind, Throughout}
 use Rattle.network.specs.Promises.{reached, Fit, Enough}
 use Rattle.network.proofs.Tree.{edge-sym, edge-within, neighbours-edge}
-use Rattle.network.proofs.CoverMore.{among-left, among-right, among-parts}
 use Rattle.network.proofs.Gather.{from-others-find, from-others-has}
 use Rattle.network.proofs.Messages.{lasts-now, lasts-after, lasts-weaker}
 use Rattle.network.proofs.Cases.{by-cases}

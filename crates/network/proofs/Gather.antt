@@ -9,9 +9,8 @@ use lib.Dec.{eqb}
 use Rattle.std.proofs.shelf.Tests.{eqb-true, eqb-false, cases-eq, or-left, or-right, eq-eqb}
 use Rattle.filter.specs.Filter.{Filter}
 use Rattle.cover.specs.Maximal.{among, maximal}
-use Rattle.cover.proofs.Members.{among-append}
+use Rattle.cover.proofs.Members.{among-append, among-left, among-right, among-parts}
 use Rattle.cover.proofs.Maximals.{maximal-part}
-use Rattle.network.proofs.CoverMore.{among-left, among-right, among-parts}
 use Rattle.network.specs.Tree.{has}
 use Rattle.network.specs.Model.{from-others}
 use Rattle.network.specs.Promise.{gathered}

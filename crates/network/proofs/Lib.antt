@@ -2,7 +2,6 @@ pub mod Alike
 pub mod Behind
 pub mod Cases
 pub mod Copies
-pub mod CoverMore
 pub mod Decide
 pub mod Example
 pub mod Fit

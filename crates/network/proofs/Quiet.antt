@@ -15,7 +15,7 @@ use Rattle.network.specs.Tree.{Tree, hangs, hop, edge, neighbours, rank}
 use Rattle.network.specs.Model.{Subscriber, Network, filters-of, from-others, to-announce, Quiet}
 use Rattle.network.specs.Promise.{replay, gathered, behind}
 use Rattle.network.proofs.Tree.{hop-self, hop-edge, hop-one-way, edge-within, edge-sym, edge-apart, neighbours-edge, rank-falls}
-use Rattle.network.proofs.CoverMore.{among-left, among-right, among-parts}
+use Rattle.cover.proofs.Members.{among-left, among-right, among-parts}
 use Rattle.network.proofs.Gather.{both, from-others-find, from-others-has, gathered-find, gathered-has, from-others-maximal}
 use Rattle.network.proofs.Tables.{Tables}
 

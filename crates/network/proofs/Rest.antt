@@ -11,7 +11,7 @@ use lib.ListN.{length, length-append}
 use Rattle.std.proofs.shelf.Tests.{eqb-true, eqb-false, eq-eqb, ne-eqb, le-leb, cases-eq}
 use Rattle.filter.specs.Filter.{Filter, Notice}
 use Rattle.cover.specs.Maximal.{minus, maximal, any-matches}
-use Rattle.network.proofs.CoverMore.{length-minus}
+use Rattle.cover.proofs.Members.{length-minus}
 use Rattle.cover.proofs.Changes.{minus-part}
 use Rattle.network.specs.Tree.{Tree, hangs, has, edge, neighbours, rank}
 use Rattle.network.specs.Model.{Subscriber, Message, add, cut, notice, after, Network, filters-of, adds, cuts, batch, from-others, to-announce, announcement, tell, arrive, passed-on, taken, react, dropped, Command, carry, step, end, empty, Quiet}
