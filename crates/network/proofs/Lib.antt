@@ -1,6 +1,7 @@
 pub mod Alike
 pub mod Behind
 pub mod Cases
+pub mod Channels
 pub mod Copies
 pub mod Decide
 pub mod Example
@@ -23,6 +24,7 @@ pub mod Said
 pub mod Stays
 pub mod Sums
 pub mod Tables
+pub mod Telling
 pub mod Throughout
 pub mod Tree
 pub mod Turns

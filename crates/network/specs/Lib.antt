@@ -1,4 +1,5 @@
 pub mod Example
+pub mod Links
 pub mod Memory
 pub mod Model
 pub mod Opening

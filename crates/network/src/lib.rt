@@ -1,6 +1,7 @@
 // The network: brokers in a tree, subscribers, the commands that they take, and what is promised of every list of them.
 pub mod command;
 pub mod examples;
+pub mod links;
 pub mod memory;
 pub mod opening;
 pub mod promises;

@@ -2,6 +2,7 @@
 use network::Opening;
 use network::Refusal;
 use network::Rooms;
+use network::links::link;
 use network::refusal::RefusalDebug;
 use network::refusal::RefusalDisplay;
 use network::refusal::RefusalPartialEq;
@@ -86,4 +87,16 @@ fn takes_so_many_words(rt: LibcRuntime) -> Result<(), Fail> {
     )?;
     let text = Refusal::NumberUsed(20).to_string(rt.alloc())?;
     check(text.as_str() == "refused 3 at 20")
+}
+
+#[test]
+fn brokers_beside_in_the_order_of_telling() -> Result<(), Fail> {
+    let Ok(four) = Opening::new(1, 4, &[0, 1, 1], Rooms::LARGEST) else {
+        return Err(Fail::new("refused"));
+    };
+    check(four.brokers == 4)?;
+    let mut out = [9; 4];
+    check_eq(four.beside(1, &mut out), 3)?;
+    check_eq(out, [0, 2, 3, 9])?;
+    check(link(1, 0) == 0 && link(0, 1) == 1 && link(3, 1) == 4 && link(1, 3) == 5)
 }
