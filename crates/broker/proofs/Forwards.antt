@@ -7,9 +7,10 @@ use native.Mathlib.Numerals.{add-one}
 use native.Mathlib.Omega.{arith}
 use lib.Dec.{eqb}
 use lib.ListN.{length, getD, set, take, drop}
-use Rattle.std.proofs.shelf.Lists.{append-nil, append-assoc, set-at, drop-more, drop-drop, length-push}
+use Rattle.std.proofs.shelf.Lists.{append-nil, drop-drop, length-push}
 use Rattle.std.proofs.shelf.Ways.{tells}
 use Rattle.filter.specs.Filter.{Filter, Notice, matches}
+use Rattle.filter.proofs.Passes.{push-over}
 use Rattle.cover.specs.Maximal.{any-matches}
 use Rattle.cover.specs.Table.{rows, held}
 use Rattle.cover.proofs.RowLaws.{row-fits, any-matches-more, any-matches-all}
@@ -46,9 +47,7 @@ chosen-pick table ns from e was out to j h w l =
     let a = wanting-more table ns from e j ∙ ap (λ t. wanting table ns from e j ++ cond t (getD ns j 0 ∷ []) []) w in
     let c = h .counted in
     let k = length-push (wanting table ns from e j) (getD ns j 0) in
-    let d = drop-more was to 0 l in
-    let s = set-at (wanting table ns from e j) (getD was to 0) (drop (to + 1) was) (getD ns j 0) to (sym c) in
-    let b = append-assoc (wanting table ns from e j) (getD ns j 0 ∷ []) (drop (to + 1) was) in
+    let p = push-over (wanting table ns from e j) was to (getD ns j 0) c l in
     let v = h .words in
     record { counted = rw a (omega arith); words = cc; behind = omega (arith, h .behind) }
 

@@ -8,10 +8,11 @@ use native.Mathlib.Nat.{mul-suc, mul-le-mul-left}
 use lib.Dec.{eqb, ltb}
 use lib.ListN.{length, getD, take, drop, set}
 use Rattle.std.specs.shelf.Lists.{All, removed}
-use Rattle.std.proofs.shelf.Lists.{append-assoc, drop-drop, drop-all, drop-map, drop-more, length-map, length-push, take-more, set-at}
+use Rattle.std.proofs.shelf.Lists.{drop-drop, drop-all, drop-map, drop-more, length-map, length-push, take-more}
 use Rattle.std.proofs.shelf.Ways.{tells}
 use Rattle.std.specs.declared.option.Option.the-variants.{Some, None}
 use Rattle.filter.specs.Filter.{Notice, matches}
+use Rattle.filter.proofs.Passes.{push-over}
 use Rattle.cover.specs.Maximal.{insert}
 use Rattle.cover.specs.Table.{rows, held, stored, inserted-all}
 use Rattle.cover.proofs.RowLaws.{rows-more}
@@ -131,11 +132,9 @@ delivering-pick e rs zs ys k i r h t c l =
     let q : reached e (take (i + 1) rs) ≡ reached e (take i rs) ++ r .number ∷ [] = grind arith in
     let b = h .behind in
     let n = length-push (reached e (take i rs)) (r .number) in
-    let d = drop-more zs k 0 l in
-    let s = set-at (reached e (take i rs)) (getD zs k 0) (drop (k + 1) zs) (r .number) k (sym (h .counted)) in
-    let a = append-assoc (reached e (take i rs)) (r .number ∷ []) (drop (k + 1) zs) in
+    let s = push-over (reached e (take i rs)) zs k (r .number) (h .counted) l in
     let counts = h .counted in
-    record { words = rw (h .words, q, d, s, a) refl; counted = rw q (omega arith); behind = omega arith }
+    record { words = rw (h .words, q, s) refl; counted = rw q (omega arith); behind = omega arith }
 
 -- a pass that inserts the filters, one subscriber on, and at the end
 pub gathered-more : (w m : ℕ) (ws t : List ℕ) (i : ℕ) → i < getD ws 0 0 →

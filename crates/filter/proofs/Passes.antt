@@ -1,13 +1,13 @@
--- What a pass over two rows leans on: each test of what is left of them, one place on, and where nothing is left.
-use mathlib.Core.Path.{_≡_, refl}
+-- What a pass over rows leans on: each test of what is left of two of them, one place on, and where nothing is left; and one word more written.
+use mathlib.Core.Path.{_≡_, refl, sym}
 use mathlib.Core.Bool.{Bool, true, false, _&&_, cond}
-use mathlib.Core.List.{List, [], _∷_}
+use mathlib.Core.List.{List, [], _∷_, _++_}
 use mathlib.Core.Logic.{_⊎_, inl, inr}
 use Prim.Native.Nat.{ℕ, suc, _+_, _*_, _/_, _%_, _<_, _≤_}
 use native.Mathlib.Omega.{arith}
 use lib.Dec.{eqb, ltb, leb}
-use lib.ListN.{length, getD, drop}
-use Rattle.std.proofs.shelf.Lists.{drop-more, drop-all, length-drop}
+use lib.ListN.{length, getD, set, drop}
+use Rattle.std.proofs.shelf.Lists.{append-assoc, set-at, drop-more, drop-all, length-drop}
 use Rattle.std.proofs.shelf.Ways.{tells}
 use Rattle.filter.specs.Filter.{Filter, Notice, matches, covers, same, before}
 
@@ -103,3 +103,11 @@ before-all f g i p q h =
     let b = length-drop i g in
     let c = before-empty (drop i f) (drop i g) (grind arith) in
     grind (arith, tells)
+
+-- a pass that writes words one behind the other over the front of a row: one word more
+pub push-over : (xs was : List ℕ) (k x : ℕ) → k ≡ length xs → k < length was → set (xs ++ drop k was) k x ≡ (xs ++ x ∷ []) ++ drop (k + 1) was
+push-over xs was k x e h =
+    let d = drop-more was k 0 h in
+    let s = set-at xs (getD was k 0) (drop (k + 1) was) x k (sym e) in
+    let a = append-assoc xs (x ∷ []) (drop (k + 1) was) in
+    cc

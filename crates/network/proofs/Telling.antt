@@ -6,8 +6,9 @@ use Prim.Native.Nat.{ℕ, zero, suc, _+_, _-_, _≤_, _<_}
 use native.Mathlib.Omega.{arith}
 use lib.Dec.{eqb}
 use lib.ListN.{length, getD, set, drop}
-use Rattle.std.proofs.shelf.Lists.{append-assoc, set-at, drop-more, length-push}
+use Rattle.std.proofs.shelf.Lists.{length-push}
 use Rattle.std.proofs.shelf.Ways.{tells}
+use Rattle.filter.proofs.Passes.{push-over}
 use Rattle.network.specs.Tree.{Tree, up, under, neighbours}
 
 -- the words xs stand at the front of out, which behind them is as it was
@@ -23,9 +24,7 @@ front-push xs was out many x h l =
     let c = h .counted in
     let v = h .words in
     let k = length-push xs x in
-    let d = drop-more was many 0 l in
-    let s = set-at xs (getD was many 0) (drop (many + 1) was) x many (sym c) in
-    let b = append-assoc xs (x ∷ []) (drop (many + 1) was) in
+    let p = push-over xs was many x c l in
     record { counted = omega arith; words = cc }
 
 -- the one that b hangs on, and those of the brokers up to k that hang on it
