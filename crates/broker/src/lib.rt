@@ -1,4 +1,6 @@
 // One broker: its subscribers, what it has learned from its neighbours, and what it has to announce to them.
+#![tactic(auto)]
+
 pub mod announcing;
 pub mod forwarding;
 pub mod subscribers;

@@ -1,4 +1,6 @@
 // The maximal filters of a table, and what to announce.
+#![tactic(auto)]
+
 mod rows;
 pub mod table;
 pub mod telling;

@@ -2,9 +2,8 @@
 // are zero; a range 0 to 0 takes the number 0, so no test needs to know how many are in use.
 ghost use Rattle.std.specs.Prelude.{◌≡◌};
 ghost use Rattle.filter.specs.Filter.{matches, covers, same, before, padded};
-ghost use Rattle.std.specs.Cmp.Rules.{comparing};
-ghost use Rattle.std.proofs.Common.{rules};
-ghost use Rattle.std.specs.Cmp as Keys;
+ghost use Rattle.std.specs.Cmp.{partial_equiv_from_equiv};
+ghost use Rattle.filter.specs.Equal.{same_equiv};
 
 use crate::in_place;
 
@@ -74,7 +73,7 @@ impl Filter {
 impl PartialEq for Notice {
     ghost eq = { λ a b. same a.numbers b.numbers };
 
-    ghost laws = { Keys.partial_equiv_from_equiv (Prim.search (comparing, rules)) };
+    ghost laws = { partial_equiv_from_equiv (same_equiv (λ notice. notice.numbers)) };
 
     fn eq(&self, other: &Notice) -> bool {
         in_place::same(&self.numbers, &other.numbers)
@@ -84,7 +83,7 @@ impl PartialEq for Notice {
 impl PartialEq for Filter {
     ghost eq = { λ a b. same a.bounds b.bounds };
 
-    ghost laws = { Keys.partial_equiv_from_equiv (Prim.search (comparing, rules)) };
+    ghost laws = { partial_equiv_from_equiv (same_equiv (λ filter. filter.bounds)) };
 
     fn eq(&self, other: &Filter) -> bool {
         self.same(*other)
@@ -92,9 +91,9 @@ impl PartialEq for Filter {
 }
 
 impl Eq for Notice {
-    ghost laws = { Prim.search (comparing, rules) };
+    ghost laws = { same_equiv (λ notice. notice.numbers) };
 }
 
 impl Eq for Filter {
-    ghost laws = { Prim.search (comparing, rules) };
+    ghost laws = { same_equiv (λ filter. filter.bounds) };
 }

@@ -1,4 +1,6 @@
 // A network's memory: its opening, the commands and refusals, where its parts lie and what they hold.
+#![tactic(auto)]
+
 pub mod command;
 pub mod links;
 pub mod log;

@@ -6,9 +6,4 @@ pub mod Played
 pub mod Promising
 pub mod Quieted
 pub mod Replayed
-<<<<<<< HEAD
-=======
-pub mod Restored
-pub mod Ruled
->>>>>>> h1
 pub mod Somebody

@@ -20,21 +20,16 @@ use Rattle.model.proofs.Stays.{stays_known_to_all, quiet_known}
 use Rattle.model.proofs.Kept.{third_once, third_never, second, third}
 use Rattle.layout.specs.Parts.{tree}
 use Rattle.layout.specs.State.{network_of, Encodes}
-<<<<<<< HEAD
 use Rattle.routing.specs.Rooms.{first, when, no_room_to_pass, no_room_to_deliver}
 use Rattle.steps.specs.Rules.{command_of, too_large, refusal_of, outcome, after}
 use Rattle.steps.specs.Sound.{Sound}
-=======
-use Rattle.network.specs.Rules.{command_of, refusal_of, outcome, after}
-use Rattle.network.specs.Sound.{Sound}
->>>>>>> h1
 use Rattle.network.specs.Promised.{Promised, Quietness, played, kept_if, done, KeptPromises}
 use Rattle.layout.specs.declared.opening.Opening.{Opening}
 use Rattle.layout.specs.declared.command.Command.{Command}
 use Rattle.layout.specs.declared.command.Command.TheVariants.{Post}
 use Rattle.layout.specs.declared.refusal.Refusal.{Refusal}
 use Rattle.layout.proofs.Written.{tree_length, tree_hung}
-use Rattle.network.proofs.Ruled.{unrefused}
+use Rattle.steps.proofs.Ruled.{unrefused}
 
 -- a subscriber of the list has what all of them have
 subscribed_all : (P : Filter → Type 0) (n : ℕ) (f : Filter) (rs : List Subscriber) → All (λ r. P r.filter) rs → subscribed n f rs ≡ true → P f

@@ -1,4 +1,6 @@
 // Plays a script: reads it from a file or from standard input, and prints the refusal of a bad opening, or what the script holds.
+#![tactic(auto)]
+
 use anyhow::anyhow;
 use layout::{Command, Rooms};
 use script::{Fault, Reader, Unopened};

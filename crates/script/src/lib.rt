@@ -1,4 +1,6 @@
 // Scripts: the opening of a network and the commands that it takes, read from bytes and written to them.
+#![tactic(auto)]
+
 pub mod fault;
 pub mod kind;
 mod numbers;

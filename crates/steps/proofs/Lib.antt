@@ -8,6 +8,7 @@ pub mod Oldest
 pub mod Options
 pub mod Performing
 pub mod Restored
+pub mod Ruled
 pub mod Subscribing
 pub mod Tabled
 pub mod Taken

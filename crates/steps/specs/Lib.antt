@@ -1,2 +1,3 @@
+pub mod Laws
 pub mod Rules
 pub mod Sound

@@ -1,4 +1,6 @@
 // The tests of the crates on examples, in a crate of their own: a crate with tests is proved twice.
+#![tactic(auto)]
+
 #[cfg(test)]
 mod announcements;
 #[cfg(test)]

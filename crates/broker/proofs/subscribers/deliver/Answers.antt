@@ -12,7 +12,7 @@ loop-i-init c = delivering_none _ _ _
 pub loop-i-preserved : goal.loop-i-preserved
 loop-i-preserved c =
     let p = subscribers_push c.args.m c.args.part.now c.loop-i.i (omega arith) in
-    let f = ap (λ g. matches g c.args.notice.now) c.filter-at.ensures.words in
+    let f = ap (λ g. matches g c.args.notice.now) c.filter_at.ensures.words in
     elim c.if-matches.branch [
       | then-matches w ↦
           rw (w.out-is, w.to-is, w.slot.ensures.words)

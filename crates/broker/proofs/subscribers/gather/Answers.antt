@@ -8,7 +8,7 @@ use Rattle.broker.proofs.subscribers.gather.Goals as goal
 
 pub insert-requires : goal.insert-requires
 insert-requires c =
-    let l = c.filter-at.ensures.wide in
+    let l = c.filter_at.ensures.wide in
     let k : suc (get_or c.loop-i.table 0 0) ≤ get_or c.args.table.now 0 0 + get_or c.args.part.now 0 0 = omega (arith, c.loop-i.invariant.1) in
     let m = mul-le-mul_left (2 * c.args.m) k in
     let r = c.requires.room in
@@ -17,7 +17,7 @@ insert-requires c =
 pub loop-i-preserved : goal.loop-i-preserved
 loop-i-preserved c =
     let e : c.insert.new.table ≡ stored (2 * c.args.m) (insert (drop 1 (take (1 + 2 * c.args.m) (drop (1 + (1 + 2 * c.args.m) * c.loop-i.i) c.args.part.now))) (held (2 * c.args.m) c.loop-i.table)) c.loop-i.table =
-    rw (c.filter-at.ensures.wide, c.filter-at.ensures.words) at c.insert.ensures in
+    rw (c.filter_at.ensures.wide, c.filter_at.ensures.words) at c.insert.ensures in
     let m = gathered_more (2 * c.args.m) c.args.m c.args.part.now c.loop-i.table c.loop-i.i (omega arith) in
     let f = drop 1 (take (1 + 2 * c.args.m) (drop (1 + (1 + 2 * c.args.m) * c.loop-i.i) c.args.part.now)) in
     let k = length_insert f (held (2 * c.args.m) c.loop-i.table) in

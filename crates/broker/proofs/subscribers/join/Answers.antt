@@ -13,8 +13,8 @@ returns-then-count-room c =
       holds = λ rs h l. absurd (omega (arith, count_held c.args.room c.args.m rs c.args.part.now h));
     }
 
-pub write-slot-requires : goal.write-slot-requires
-write-slot-requires c =
+pub write_slot-requires : goal.write_slot-requires
+write_slot-requires c =
     (c.requires.0, slot_fits (1 + 2 * c.args.m) c.args.room (get_or c.args.part.now 0 0) (length c.args.part.now) (omega arith) (omega (arith, c.requires.1.0)))
 
 pub returns : goal.returns

@@ -4,5 +4,5 @@ use Rattle.broker.proofs.subscribers.shift_out.Goals as goal
 
 pub returns : goal.returns
 returns c =
-    shifted_out c.args.words.now c.fill.new.self c.args.at c.args.end c.args.n (omega arith) (omega arith) c.rotate-left.new.self
-    c.rotate-left.ensures.after (omega arith) (c.fill.ensures.after (λ y e. e))
+    shifted_out c.args.words.now c.fill.new.self c.args.at c.args.end c.args.n (omega arith) (omega arith) c.rotate_left.new.self
+    c.rotate_left.ensures.after (omega arith) (c.fill.ensures.after (λ y e. e))

@@ -6,13 +6,13 @@ use Rattle.channel.proofs.ring.start.Goals as goal
 inside : (c : goal.After-around) → 2 + c.args.width * c.around.result + c.args.width ≤ length c.args.channel.now
 inside c = row_fits c.args.width c.args.room c.around.result (length c.args.channel.now) c.around.ensures.within c.requires.0.0
 
-pub overflow-mul-result : goal.overflow-mul-result
-overflow-mul-result c =
+pub overflow_mul-result : goal.overflow_mul-result
+overflow_mul-result c =
     let h = inside c in
     search rules
 
-pub overflow-add-result : goal.overflow-add-result
-overflow-add-result c =
+pub overflow_add-result : goal.overflow_add-result
+overflow_add-result c =
     let h = inside c in
     search rules
 

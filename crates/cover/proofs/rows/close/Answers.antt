@@ -2,13 +2,13 @@ use Rattle.std.proofs.Common.{◌*◌, ◌++◌, length, drop, replicate, sym, �
 use Rattle.cover.proofs.RowLaws.{row_fits, written_removed}
 use Rattle.cover.proofs.rows.close.Goals as goal
 
-pub overflow-mul-start : goal.overflow-mul-start
-overflow-mul-start c = omega (arith, row_fits c.args.width c.args.count c.args.at (length c.args.words.now) c.requires.0 c.requires.1)
+pub overflow_mul-start : goal.overflow_mul-start
+overflow_mul-start c = omega (arith, row_fits c.args.width c.args.count c.args.at (length c.args.words.now) c.requires.0 c.requires.1)
 
-pub shift-out-requires : goal.shift-out-requires
-shift-out-requires c = (row_fits c.args.width c.args.count c.args.at (c.args.width * c.args.count) c.requires.0 (omega arith), c.requires.1)
+pub shift_out-requires : goal.shift_out-requires
+shift_out-requires c = (row_fits c.args.width c.args.count c.args.at (c.args.width * c.args.count) c.requires.0 (omega arith), c.requires.1)
 
 pub returns : goal.returns
 returns c =
-    c.shift-out.ensures
+    c.shift_out.ensures
     ∙ sym (written_removed c.args.width c.args.count c.args.at c.args.words.now (replicate c.args.width 0 ++ drop (c.args.width * c.args.count) c.args.words.now) c.requires.0)

@@ -6,7 +6,7 @@ use Rattle.cover.proofs.rows.difference.Goals as goal
 use Rattle.cover.proofs.rows.difference.Goals.{then-not-has, else-not-has}
 
 pub loop-i-init : goal.loop-i-init
-loop-i-init c = picking_none (rows c.args.width c.args.other-count c.args.others.now) c.args.width c.args.words.now c.args.out.now
+loop-i-init c = picking_none (rows c.args.width c.args.other_count c.args.others.now) c.args.width c.args.words.now c.args.out.now
 
 pub row-next-requires : goal.row-next-requires
 row-next-requires c = row_fits c.args.width c.args.count c.loop-i.i (length c.args.words.now) (omega arith) c.requires.rows
@@ -18,8 +18,8 @@ has-requires c =
     let l = ap length c.row-next.ensures ∙ length_row c.args.width c.loop-i.i c.args.words.now b in
     rw l c.requires.others
 
-pub write-row-requires : goal.write-row-requires
-write-row-requires c =
+pub write_row-requires : goal.write_row-requires
+write_row-requires c =
     let b = row_fits c.args.width c.args.count c.loop-i.i (length c.args.words.now) (omega arith) c.requires.rows in
     let l = ap length c.row-next.ensures ∙ length_row c.args.width c.loop-i.i c.args.words.now b in
     let n : c.loop-i.new < c.args.count = omega (arith, c.loop-i.invariant.behind) in
@@ -33,10 +33,10 @@ loop-i-preserved c =
     elim c.if-not-has.branch [
       | then-not-has w ↦
           let h = w.if-not-has.ensures in
-          rw (w.out-is, w.new-is, w.write-row.ensures, e)
-          (picking_pick (rows c.args.width c.args.other-count c.args.others.now) c.args.width c.args.words.now c.args.out.now c.loop-i.out c.loop-i.new c.loop-i.i c.loop-i.invariant (cc) b)
+          rw (w.out-is, w.new-is, w.write_row.ensures, e)
+          (picking_pick (rows c.args.width c.args.other_count c.args.others.now) c.args.width c.args.words.now c.args.out.now c.loop-i.out c.loop-i.new c.loop-i.i c.loop-i.invariant (cc) b)
       | else-not-has w ↦
           let h = w.if-not-has.ensures in
           rw (w.out-is, w.new-is)
-          (picking_skip (rows c.args.width c.args.other-count c.args.others.now) c.args.width c.args.words.now c.args.out.now c.loop-i.out c.loop-i.new c.loop-i.i c.loop-i.invariant (cc))
+          (picking_skip (rows c.args.width c.args.other_count c.args.others.now) c.args.width c.args.words.now c.args.out.now c.loop-i.out c.loop-i.new c.loop-i.i c.loop-i.invariant (cc))
     ]

@@ -10,16 +10,16 @@ loop-i-init c = keeping_none c.args.f.now (length c.args.f.now) c.args.words.now
 pub row-requires : goal.row-requires
 row-requires c = row_fits (length c.args.f.now) c.args.count c.loop-i.i (length c.loop-i.words) (omega arith) (omega arith)
 
-pub overflow-mul-width : goal.overflow-mul-width
-overflow-mul-width c = omega (arith, row_fits (length c.args.f.now) c.args.count c.loop-i.i (length c.loop-i.words) (omega arith) (omega arith))
+pub overflow_mul-width : goal.overflow_mul-width
+overflow_mul-width c = omega (arith, row_fits (length c.args.f.now) c.args.count c.loop-i.i (length c.loop-i.words) (omega arith) (omega arith))
 
-pub overflow-mul-width-then-not-covers : goal.overflow-mul-width-then-not-covers
-overflow-mul-width-then-not-covers c =
+pub overflow_mul-width-then-not-covers : goal.overflow_mul-width-then-not-covers
+overflow_mul-width-then-not-covers c =
     let m = mul-le-mul_left (length c.args.f.now) c.loop-i.invariant.behind in
     omega (arith, row_fits (length c.args.f.now) c.args.count c.loop-i.i (length c.loop-i.words) (omega arith) (omega arith))
 
-pub copy-down-requires : goal.copy-down-requires
-copy-down-requires c = (
+pub copy_down-requires : goal.copy_down-requires
+copy_down-requires c = (
   mul-le-mul_left (length c.args.f.now) c.loop-i.invariant.behind,
   row_fits (length c.args.f.now) c.args.count c.loop-i.i (length c.loop-i.words) (omega arith) (omega arith),
 )
@@ -31,7 +31,7 @@ loop-i-preserved c =
           let b = row_fits (length c.args.f.now) c.args.count c.loop-i.i (length c.loop-i.words) (omega arith) (omega arith) in
           let e = c.row.ensures in
           let t = w.if-not-covers.ensures in
-          rw (w.words-is, w.left-is, w.copy-down.ensures)
+          rw (w.words-is, w.left-is, w.copy_down.ensures)
           (keeping_keep c.args.f.now (length c.args.f.now) c.args.words.now c.loop-i.words c.loop-i.left c.loop-i.i c.loop-i.invariant (cc) b)
       | else-not-covers w ↦
           let e = c.row.ensures in
@@ -40,8 +40,8 @@ loop-i-preserved c =
           (keeping_skip c.args.f.now (length c.args.f.now) c.args.words.now c.loop-i.words c.loop-i.left c.loop-i.i c.loop-i.invariant (cc))
     ]
 
-pub overflow-mul-width-2 : goal.overflow-mul-width-2
-overflow-mul-width-2 c =
+pub overflow_mul-width-2 : goal.overflow_mul-width-2
+overflow_mul-width-2 c =
     let h : c.loop-i.left ≤ c.args.count = omega (arith, c.loop-i.invariant.behind) in
     omega (arith, mul-le-mul_left (length c.args.f.now) h)
 

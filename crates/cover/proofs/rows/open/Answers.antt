@@ -2,13 +2,13 @@ use Rattle.std.proofs.Common.{length, sym, refl, ◌∙◌, mul-le-mul_left, ari
 use Rattle.cover.proofs.RowLaws.{written_inserted}
 use Rattle.cover.proofs.rows.open.Goals as goal
 
-pub overflow-mul-start : goal.overflow-mul-start
-overflow-mul-start c = omega (arith, mul-le-mul_left (length c.args.f.now) c.requires.0)
+pub overflow_mul-start : goal.overflow_mul-start
+overflow_mul-start c = omega (arith, mul-le-mul_left (length c.args.f.now) c.requires.0)
 
-pub shift-in-requires : goal.shift-in-requires
-shift-in-requires c = (mul-le-mul_left (length c.args.f.now) c.requires.0, c.requires.1)
+pub shift_in-requires : goal.shift_in-requires
+shift_in-requires c = (mul-le-mul_left (length c.args.f.now) c.requires.0, c.requires.1)
 
 pub returns : goal.returns
 returns c =
-    c.shift-in.ensures
+    c.shift_in.ensures
     ∙ sym (written_inserted (length c.args.f.now) c.args.count c.args.at c.args.words.now c.args.f.now refl c.requires.0)

@@ -15,7 +15,7 @@ pub put-requires : goal.put-requires
 put-requires c =
     record {
       wide = c.requires.wide;
-      room = room_left (length c.args.f.now) c.args.f.now c.args.table.now c.take-covered.new.table c.take-covered.ensures (omega arith) c.requires.room;
+      room = room_left (length c.args.f.now) c.args.f.now c.args.table.now c.take_covered.new.table c.take_covered.ensures (omega arith) c.requires.room;
     }
 
 pub returns : goal.returns
@@ -23,5 +23,5 @@ returns c =
     let t = c.if-covers.ensures in
     let a : any_covers (held (length c.args.f.now) c.args.table.now) c.args.f.now ≡ false = cc in
     c.put.ensures
-    ∙ (ap (λ t. stored (length c.args.f.now) (put c.args.f.now (held (length c.args.f.now) t)) t) c.take-covered.ensures
+    ∙ (ap (λ t. stored (length c.args.f.now) (put c.args.f.now (held (length c.args.f.now) t)) t) c.take_covered.ensures
     ∙ stored_insert (length c.args.f.now) c.args.f.now c.args.table.now (omega arith) a)

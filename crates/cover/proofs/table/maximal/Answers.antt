@@ -9,6 +9,6 @@ returns c =
     let e = c.fill.ensures.after (λ y e. e) in
     let l = length_rows c.args.width c.args.count c.args.list.now in
     let b : 1 + c.args.width * length (rows c.args.width c.args.count c.args.list.now) ≤ length c.args.table.now = rw l c.requires.room in
-    c.insert-all.ensures
+    c.insert_all.ensures
     ∙ (ap (inserted_all c.args.width (rows c.args.width c.args.count c.args.list.now)) e
     ∙ inserted_all_none c.args.width (length c.args.table.now) (rows c.args.width c.args.count c.args.list.now) (wide_rows c.args.width c.args.count c.args.list.now c.requires.within) b)

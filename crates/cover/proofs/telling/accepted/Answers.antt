@@ -3,28 +3,28 @@ use Rattle.std.proofs.lemmas.Bool.Decides.{nat_tests}
 use Rattle.cover.specs.Entry.{refusal, known_whole}
 use Rattle.cover.proofs.telling.accepted.Goals as goal
 
-pub returns-then-not-known-whole : goal.returns-then-not-known-whole
+pub returns-then-not-known_whole : goal.returns-then-not-known_whole
 unfolding refusal
-returns-then-not-known-whole c =
-    let k = c.if-not-known-whole.ensures in
+returns-then-not-known_whole c =
+    let k = c.if-not-known_whole.ensures in
     grind (arith, nat_tests)
 
-pub said-whole-requires : goal.said-whole-requires
+pub said_whole-requires : goal.said_whole-requires
 unfolding known_whole
-said-whole-requires c =
-    let k = c.if-not-known-whole.ensures in
+said_whole-requires c =
+    let k = c.if-not-known_whole.ensures in
     (grind (arith, nat_tests), grind (arith, nat_tests))
 
-pub returns-then-not-said-whole : goal.returns-then-not-said-whole
+pub returns-then-not-said_whole : goal.returns-then-not-said_whole
 unfolding refusal
-returns-then-not-said-whole c =
-    let k = c.if-not-known-whole.ensures in
-    let s = c.then-not-said-whole.either in
+returns-then-not-said_whole c =
+    let k = c.if-not-known_whole.ensures in
+    let s = c.then-not-said_whole.either in
     grind (arith, nat_tests)
 
 pub returns : goal.returns
 unfolding refusal
 returns c =
-    let k = c.if-not-known-whole.ensures in
-    let s = c.if-not-said-whole.ensures in
+    let k = c.if-not-known_whole.ensures in
+    let s = c.if-not-said_whole.ensures in
     grind (arith, nat_tests)

@@ -3,8 +3,8 @@ use Rattle.cover.proofs.TableLaws.{stored_pushed}
 use Rattle.layout.proofs.log.push.Goals as goal
 
 -- a row has a word at least, so there are no more rows than words
-pub overflow-add-log : goal.overflow-add-log
-overflow-add-log c =
+pub overflow_add-log : goal.overflow_add-log
+overflow_add-log c =
     let p = mul-le-mul_right (get_or c.args.log.now 0 0) c.requires.0 in
     search rules
 

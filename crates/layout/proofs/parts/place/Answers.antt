@@ -12,18 +12,18 @@ lies : (c : goal.After-first-base) →
     × (words_of (plan_of c.args.opening.now) ≤ 18848986)
 lies c = spans c.args.opening.now (kind_number c.args.kind) c.args.i c.first-base.result.0 c.first-base.result.1 c.requires c.first-base.ensures.0 c.first-base.ensures.1
 
-pub overflow-mul-at : goal.overflow-mul-at
-overflow-mul-at c =
+pub overflow_mul-at : goal.overflow_mul-at
+overflow_mul-at c =
     let s = lies c in
     omega arith
 
-pub overflow-add-at : goal.overflow-add-at
-overflow-add-at c =
+pub overflow_add-at : goal.overflow_add-at
+overflow_add-at c =
     let s = lies c in
     omega arith
 
-pub overflow-add-result : goal.overflow-add-result
-overflow-add-result c =
+pub overflow_add-result : goal.overflow_add-result
+overflow_add-result c =
     let s = lies c in
     omega arith
 

@@ -16,20 +16,20 @@ place-at-requires c =
     let l = ltb-true _ _ (found _ _ _ c.in-Some.ensures) in
     omega arith
 
-pub filter-of-requires : goal.filter-of-requires
-filter-of-requires c =
+pub filter_of-requires : goal.filter_of-requires
+filter_of-requires c =
     let o = c.args.opening.now in
     let e = found_is _ _ _ c.in-Some.ensures in
     let l = ltb-true _ _ (found _ _ _ c.in-Some.ensures) in
     (o.valid.0.1, subscribers_whole o c.args.memory.now c.requires.formed c.in-Some.b c.place-at.result.at c.place-at.result.end (omega arith) c.place-at.ensures.start c.place-at.ensures.stop)
 
-pub returns-in-default-filter-of : goal.returns-in-default-filter-of
-returns-in-default-filter-of c =
+pub returns-in_default-filter_of : goal.returns-in_default-filter_of
+returns-in_default-filter_of c =
     let o = c.args.opening.now in
     let e = found_is _ _ _ c.in-Some.ensures in
     let t = found _ _ _ c.in-Some.ensures in
     let l = ltb-true _ _ t in
-    nobody_there o c.args.memory.now c.requires.formed c.args.broker c.place-at.result.at c.place-at.result.end c.args.number t l (rw e at c.place-at.ensures.start) (rw e at c.place-at.ensures.stop) _ c.in-default-filter-of.ensures
+    nobody_there o c.args.memory.now c.requires.formed c.args.broker c.place-at.result.at c.place-at.result.end c.args.number t l (rw e at c.place-at.ensures.start) (rw e at c.place-at.ensures.stop) _ c.in_default-filter_of.ensures
 
 pub returns : goal.returns
 returns c =
@@ -40,7 +40,7 @@ returns c =
     let l = ltb-true _ _ t in
     let start = rw e at c.place-at.ensures.start in
     let stop = rw e at c.place-at.ensures.stop in
-    let f = filter_read o memory c.requires.formed c.args.broker c.place-at.result.at c.place-at.result.end c.args.number t l start stop c.in-Some-filter-of.filter c.in-Some-filter-of.ensures in (
-      somebody o memory c.requires.formed c.args.broker c.place-at.result.at c.place-at.result.end c.args.number t l start stop c.in-Some-filter-of.filter c.in-Some-filter-of.ensures,
-      c.is-known.ensures ∙ (λ i. is_known (tree o) (network_of o memory) (e i) (f i)),
+    let f = filter_read o memory c.requires.formed c.args.broker c.place-at.result.at c.place-at.result.end c.args.number t l start stop c.in-Some-filter_of.filter c.in-Some-filter_of.ensures in (
+      somebody o memory c.requires.formed c.args.broker c.place-at.result.at c.place-at.result.end c.args.number t l start stop c.in-Some-filter_of.filter c.in-Some-filter_of.ensures,
+      c.is_known.ensures ∙ (λ i. is_known (tree o) (network_of o memory) (e i) (f i)),
     )

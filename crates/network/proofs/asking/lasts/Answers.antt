@@ -29,5 +29,5 @@ replay-requires c =
       sound = c.requires.sound;
       beside = c.requires.beside;
       wide = c.requires.wide;
-      table = saved_table (filters_room o) o.ranges _ _ c.save-table.result.words k c.save-table.ensures.kept c.table-words-size.result c.table-words-size.ensures.value;
+      table = saved_table (filters_room o) o.ranges _ _ c.save-table.result.words k c.save-table.ensures.kept c.table_words-size.result c.table_words-size.ensures.value;
     }

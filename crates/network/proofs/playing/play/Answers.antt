@@ -4,7 +4,7 @@ use Rattle.layout.specs.Parts.{plan_of}
 use Rattle.network.proofs.Opened.{opened_sound, opened_empty}
 use Rattle.network.proofs.Played.{playing_none, playing_done, playing_refused, playing_all}
 use Rattle.network.proofs.playing.play.Goals as goal
-use Rattle.network.proofs.playing.play.Goals.{in-Ok, in-default}
+use Rattle.network.proofs.playing.play.Goals.{in-Ok, in_default}
 
 pub loop-command-init : goal.loop-command-init
 loop-command-init c =
@@ -16,8 +16,8 @@ loop-command-init c =
 pub perform-requires : goal.perform-requires
 perform-requires c = c.loop-command.invariant.sound
 
-pub overflow-add-many : goal.overflow-add-many
-overflow-add-many c = omega (arith, c.loop-command.invariant.few)
+pub overflow_add-many : goal.overflow_add-many
+overflow_add-many c = omega (arith, c.loop-command.invariant.few)
 
 pub loop-command-preserved : goal.loop-command-preserved
 loop-command-preserved c =
@@ -25,9 +25,9 @@ loop-command-preserved c =
       | in-Ok w ↦
           rw w.many-is
           (playing_done _ _ _ _ _ c.loop-command.invariant c.loop-command-test.true _ c.perform.result c.perform.new.memory c.perform.ensures _ w.in-Ok.is)
-      | in-default w ↦
+      | in_default w ↦
           rw w.many-is
-          (playing_refused _ _ _ _ _ c.loop-command.invariant c.loop-command-test.true _ c.perform.result c.perform.new.memory c.perform.ensures _ w.in-default.is)
+          (playing_refused _ _ _ _ _ c.loop-command.invariant c.loop-command-test.true _ c.perform.result c.perform.new.memory c.perform.ensures _ w.in_default.is)
     ]
 
 pub returns : goal.returns

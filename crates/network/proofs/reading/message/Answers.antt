@@ -5,8 +5,8 @@ use Rattle.network.proofs.Pieces.{piece_read}
 use Rattle.routing.proofs.Sendings.{link_channel, lent_channel}
 use Rattle.network.proofs.reading.message.Goals as goal
 
-pub part-between-requires : goal.part-between-requires
-part-between-requires c = λ a b e. link_channel c.args.opening.now a b (link a b) e refl
+pub part_between-requires : goal.part_between-requires
+part_between-requires c = λ a b e. link_channel c.args.opening.now a b (link a b) e refl
 
 pub get-requires : goal.get-requires
 get-requires c =

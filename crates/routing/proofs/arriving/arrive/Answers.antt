@@ -7,8 +7,8 @@ use Rattle.routing.proofs.Arrivals.{first_none, lent_front, goes_apart, goes_bes
 use Rattle.layout.proofs.Encoded.{reads, formed}
 use Rattle.routing.proofs.arriving.arrive.Goals as goal
 
-pub send-all-requires : goal.send-all-requires
-send-all-requires c =
+pub send_all-requires : goal.send_all-requires
+send_all-requires c =
     let o = c.args.opening.now in
     let s = network_of o c.args.memory.now in
     let b = c.args.broker in
@@ -24,14 +24,14 @@ send-all-requires c =
           (goes_beside o s b c.args.from e reach c.requires.there c.requires.reaches n u, goes_room o s b c.args.from e reach c.requires.there c.requires.reaches c.args.number pass n u);
     }
 
-pub write-down-requires : goal.write-down-requires
-write-down-requires c =
+pub write_down-requires : goal.write_down-requires
+write_down-requires c =
     let o = c.args.opening.now in
     let s = network_of o c.args.memory.now in
     let e = take o.ranges c.args.notice.numbers in
     let reach = c.args.reach.now in
     let f = ap length (lent_front reach.many reach.whom) ∙ length-take-le reach.many reach.whom c.requires.reaches.few.1 in
-    let r = reads o c.send-all.new.memory _ c.send-all.ensures in
+    let r = reads o c.send_all.new.memory _ c.send_all.ensures in
     let x = ap (λ u. length u.deliveries) r in
     let y = ap (λ u. length (u.arrived c.args.broker)) r in
     let full = no_room_to_pass o s c.args.broker c.args.from c.args.number e in
@@ -39,7 +39,7 @@ write-down-requires c =
     let m = deliveries_room o s c.args.broker c.args.from e reach c.requires.there c.requires.reaches c.args.number (first_none full many c.requires.room).1 in
     let n = c.requires.new in
     record {
-      formed = formed o c.send-all.new.memory _ c.send-all.ensures;
+      formed = formed o c.send_all.new.memory _ c.send_all.ensures;
       there = c.requires.there;
       room = (omega arith, omega arith);
     }
@@ -50,5 +50,5 @@ returns c =
     let s = network_of o c.args.memory.now in
     let e = take o.ranges c.args.notice.numbers in
     let reach = c.args.reach.now in
-    arrived_now o s c.args.broker c.args.from e reach c.requires.there c.requires.reaches c.args.number _ _ c.send-all.new.memory c.write-down.new.memory
-    (lent_front reach.on reach.to) (lent_front reach.many reach.whom) c.send-all.ensures c.write-down.ensures
+    arrived_now o s c.args.broker c.args.from e reach c.requires.there c.requires.reaches c.args.number _ _ c.send_all.new.memory c.write_down.new.memory
+    (lent_front reach.on reach.to) (lent_front reach.many reach.whom) c.send_all.ensures c.write_down.ensures

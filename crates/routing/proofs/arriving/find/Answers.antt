@@ -9,21 +9,21 @@ use Rattle.routing.proofs.Surrounded.{front_taken}
 use Rattle.layout.proofs.Written.{lent_part}
 use Rattle.routing.proofs.arriving.find.Goals as goal
 
-pub goes-on-on-requires : goal.goes-on-on-requires
-goes-on-on-requires c =
+pub goes_on-on-requires : goal.goes_on-on-requires
+goes_on-on-requires c =
     let o = c.args.opening.now in
     let memory = c.args.memory.now in
     let a = c.args.around.now in
     let ns = lent_beside o a c.requires.around in
     let ps = lent_places o a c.requires.around in
-    let size = c.table-words-size.result in
+    let size = c.table_words-size.result in
     let m = around_many o a c.requires.around in
     let f = c.requires.around.few in
     let l = ap length ns in
     record {
       count = o.valid.0.1;
-      both = one_each o memory a c.requires.formed c.requires.around size _ c.table-words-size.ensures.value ps ∙ ap length (sym ns);
-      placed = tables_placed o memory a c.requires.formed c.requires.around size _ c.table-words-size.ensures.value ps;
+      both = one_each o memory a c.requires.formed c.requires.around size _ c.table_words-size.ensures.value ps ∙ ap length (sym ns);
+      placed = tables_placed o memory a c.requires.formed c.requires.around size _ c.table_words-size.ensures.value ps;
       room = omega arith;
     }
 
@@ -52,14 +52,14 @@ returns c =
     let own = lent_part (plan_of o) 0 a.broker c.place-at.result.at c.place-at.result.end memory c.place-at.ensures.start c.place-at.ensures.stop in
     let ns = lent_beside o a c.requires.around in
     let ps = lent_places o a c.requires.around in
-    let size = c.table-words-size.result in
-    let p = c.goes-on-on.ensures.words in
+    let size = c.table_words-size.result in
+    let p = c.goes_on-on.ensures.words in
     let q = c.deliver-many.ensures.words in
     record {
-      few = (front_long _ _ _ _ p c.goes-on-on.ensures.counted, front_long _ _ _ _ q c.deliver-many.ensures.counted);
+      few = (front_long _ _ _ _ p c.goes_on-on.ensures.counted, front_long _ _ _ _ q c.deliver-many.ensures.counted);
       on =
-          front_taken _ _ _ _ p c.goes-on-on.ensures.counted
-          ∙ wanting_found o memory a c.requires.formed c.requires.around size _ c.table-words-size.ensures.value ps _ c.args.from c.args.notice.now ns;
+          front_taken _ _ _ _ p c.goes_on-on.ensures.counted
+          ∙ wanting_found o memory a c.requires.formed c.requires.around size _ c.table_words-size.ensures.value ps _ c.args.from c.args.notice.now ns;
       whom =
           front_taken _ _ _ _ q c.deliver-many.ensures.counted
           ∙ ap (reached c.args.notice.now) (ap (subscribers o.ranges) own ∙ own_subscribers o memory a c.requires.formed c.requires.around);

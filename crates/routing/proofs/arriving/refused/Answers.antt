@@ -8,8 +8,8 @@ use Rattle.routing.proofs.Arrivals.{goes_beside, lent_deliveries, first_word, de
 use Rattle.layout.proofs.Logged.{delivers_count}
 use Rattle.routing.proofs.arriving.refused.Goals as goal
 
-pub lacks-room-requires : goal.lacks-room-requires
-lacks-room-requires c =
+pub lacks_room-requires : goal.lacks_room-requires
+lacks_room-requires c =
     let o = c.args.opening.now in
     record {
       formed = c.requires.formed;
@@ -32,9 +32,9 @@ bounds-memory-at c =
     omega arith
 
 -- the first word of the deliveries counts them
-pub overflow-add-memory : goal.overflow-add-memory
+pub overflow_add-memory : goal.overflow_add-memory
 unfolding size_of
-overflow-add-memory c =
+overflow_add-memory c =
     let o = c.args.opening.now in
     let memory = c.args.memory.now in
     let s = network_of o memory in
@@ -71,7 +71,7 @@ returns-then-memory-at-gt-DELIVERIES c =
     let m = deliveries_many o s b c.args.from e c.args.reach.now c.requires.there c.requires.reaches c.args.number in
     let t = c.if-memory-at-gt-DELIVERIES.true in
     let many = length s.deliveries + length (delivered c.args.number e (s.subscribers b)) in
-    second_of _ (leb many 65536) _ (c.in-default.ensures c.args.from c.args.number e c.requires.reaches) (lt-leb many 65536 (omega arith))
+    second_of _ (leb many 65536) _ (c.in_default.ensures c.args.from c.args.number e c.requires.reaches) (lt-leb many 65536 (omega arith))
 
 pub returns : goal.returns
 unfolding size_of
@@ -90,4 +90,4 @@ returns c =
     let m = deliveries_many o s b c.args.from e c.args.reach.now c.requires.there c.requires.reaches c.args.number in
     let t = c.if-memory-at-gt-DELIVERIES.false in
     let many = length s.deliveries + length (delivered c.args.number e (s.subscribers b)) in
-    none_of _ (leb many 65536) _ (c.in-default.ensures c.args.from c.args.number e c.requires.reaches) (le-leb many 65536 (omega arith))
+    none_of _ (leb many 65536) _ (c.in_default.ensures c.args.from c.args.number e c.requires.reaches) (le-leb many 65536 (omega arith))

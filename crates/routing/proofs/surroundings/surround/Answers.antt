@@ -10,8 +10,8 @@ use Rattle.routing.proofs.surroundings.surround.Goals as goal
 pub loop-j-init : goal.loop-j-init
 loop-j-init c = record { room = refl; words = refl }
 
-pub offset-bounds-neighbours-j : goal.offset-bounds-neighbours-j
-offset-bounds-neighbours-j c =
+pub offset_bounds-neighbours-j : goal.offset_bounds-neighbours-j
+offset_bounds-neighbours-j c =
     let f = neighbours_few c.args.opening.now c.args.broker in
     omega arith
 
@@ -36,8 +36,8 @@ place-at-requires c =
     let w = link_within_o c.args.opening.now (get_or c.beside-many.new.out c.loop-j.j 0) c.args.broker e in
     rw c.link.ensures w
 
-pub offset-bounds-places-j : goal.offset-bounds-places-j
-offset-bounds-places-j c =
+pub offset_bounds-places-j : goal.offset_bounds-places-j
+offset_bounds-places-j c =
     let f = neighbours_few c.args.opening.now c.args.broker in
     omega arith
 

@@ -9,8 +9,8 @@ pub place-at-requires : goal.place-at-requires
 unfolding many_of
 place-at-requires c = c.requires.ready.around.there
 
-pub to-announce-requires : goal.to-announce-requires
-to-announce-requires c =
+pub to_announce-requires : goal.to_announce-requires
+to_announce-requires c =
     let o = c.args.opening.now in
     let memory = c.args.memory.now in
     let a = c.args.around.now in
@@ -37,4 +37,4 @@ returns c =
     let ns = lent_beside o a ready.around in
     let ps = lent_places o a ready.around in
     let size = length c.args.table.now in
-    announcement_found o memory a ready.formed ready.around size _ c.requires.room ps _ _ own ns c.args.n size c.to-announce.new.out c.to-announce.ensures.model
+    announcement_found o memory a ready.formed ready.around size _ c.requires.room ps _ _ own ns c.args.n size c.to_announce.new.out c.to_announce.ensures.model

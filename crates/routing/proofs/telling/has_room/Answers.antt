@@ -20,8 +20,8 @@ count-requires c =
     let l = carries_length o.messages o.ranges _ _ k in
     rw l (omega arith)
 
-pub overflow-add-result-2 : goal.overflow-add-result-2
-overflow-add-result-2 c =
+pub overflow_add-result-2 : goal.overflow_add-result-2
+overflow_add-result-2 c =
     let o = c.args.opening.now in
     let k = lent_channel o c.args.memory.now c.requires.ready.formed c.args.around.now.broker c.args.n c.requires.beside c.link.result c.place-at.result.at c.place-at.result.end c.link.ensures c.place-at.ensures.start c.place-at.ensures.stop in
     let s = (carries_shape o.messages o.ranges _ _ k).2 in

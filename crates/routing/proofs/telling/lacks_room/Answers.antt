@@ -9,11 +9,11 @@ use Rattle.routing.proofs.telling.lacks_room.Goals as goal
 pub loop-j-init : goal.loop-j-init
 loop-j-init c = refl
 
-pub has-room-requires : goal.has-room-requires
-has-room-requires c = record { ready = c.requires; beside = around_edge c.args.opening.now c.args.around.now c.requires.around c.loop-j.j c.loop-j-test.true }
+pub has_room-requires : goal.has_room-requires
+has_room-requires c = record { ready = c.requires; beside = around_edge c.args.opening.now c.args.around.now c.requires.around c.loop-j.j c.loop-j-test.true }
 
-pub returns-then-not-has-room : goal.returns-then-not-has-room
-returns-then-not-has-room c =
+pub returns-then-not-has_room : goal.returns-then-not-has_room
+returns-then-not-has_room c =
     let o = c.args.opening.now in
     let a = c.args.around.now in
     let s = network_of o c.args.memory.now in
@@ -21,7 +21,7 @@ returns-then-not-has-room c =
     let m = around_many o a c.requires.around in
     let e = around_at o a c.requires.around c.loop-j.j c.loop-j-test.true in
     let t = c.loop-j-test.true in
-    sym (full_here o.messages (s.channel a.broker) (tidings (tree o) s a.broker) (neighbours (tree o) a.broker) c.loop-j.j n (omega arith) e c.if-not-has-room.ensures) ∙ c.loop-j.invariant
+    sym (full_here o.messages (s.channel a.broker) (tidings (tree o) s a.broker) (neighbours (tree o) a.broker) c.loop-j.j n (omega arith) e c.if-not-has_room.ensures) ∙ c.loop-j.invariant
 
 pub loop-j-preserved : goal.loop-j-preserved
 loop-j-preserved c =
@@ -32,7 +32,7 @@ loop-j-preserved c =
     let m = around_many o a c.requires.around in
     let e = around_at o a c.requires.around c.loop-j.j c.loop-j-test.true in
     let t = c.loop-j-test.true in
-    sym (full_next o.messages (s.channel a.broker) (tidings (tree o) s a.broker) (neighbours (tree o) a.broker) c.loop-j.j n (omega arith) e c.if-not-has-room.ensures) ∙ c.loop-j.invariant
+    sym (full_next o.messages (s.channel a.broker) (tidings (tree o) s a.broker) (neighbours (tree o) a.broker) c.loop-j.j n (omega arith) e c.if-not-has_room.ensures) ∙ c.loop-j.invariant
 
 pub returns : goal.returns
 returns c =

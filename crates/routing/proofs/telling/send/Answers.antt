@@ -8,8 +8,8 @@ link-requires c = ends_small c.args.opening.now c.args.from c.args.to c.requires
 pub place-at-requires : goal.place-at-requires
 place-at-requires c = link_channel c.args.opening.now c.args.from c.args.to c.link.result c.requires.beside c.link.ensures
 
-pub append-all-requires : goal.append-all-requires
-append-all-requires c =
+pub append_all-requires : goal.append_all-requires
+append_all-requires c =
     let o = c.args.opening.now in
     let q = lent_channel o c.args.memory.now c.requires.formed c.args.from c.args.to c.requires.beside c.link.result c.place-at.result.at c.place-at.result.end c.link.ensures c.place-at.ensures.start c.place-at.ensures.stop in
     record { shape = (o.valid.0.1, carries_shape o.messages o.ranges _ _ q); within = c.requires.within }
@@ -17,4 +17,4 @@ append-all-requires c =
 pub returns : goal.returns
 returns c =
     sent c.args.opening.now c.args.memory.now c.requires.formed c.args.from c.args.to c.requires.beside c.link.result c.place-at.result.at c.place-at.result.end c.link.ensures c.place-at.ensures.start c.place-at.ensures.stop
-    c.args.change c.args.count c.args.filters.now c.append-all.new.channel c.requires.within c.requires.room c.append-all.ensures.holds
+    c.args.change c.args.count c.args.filters.now c.append_all.new.channel c.requires.within c.requires.room c.append_all.ensures.holds

@@ -5,8 +5,8 @@ use Rattle.routing.proofs.telling.tell.Goals as goal
 pub loop-j-init : goal.loop-j-init
 loop-j-init c = told_first c.args.opening.now c.args.memory.now c.args.around.now c.requires.ready
 
-pub tell-one-requires : goal.tell-one-requires
-tell-one-requires c =
+pub tell_one-requires : goal.tell_one-requires
+tell_one-requires c =
     let o = c.args.opening.now in
     let a = c.args.around.now in
     record {
@@ -18,7 +18,7 @@ tell-one-requires c =
 pub loop-j-preserved : goal.loop-j-preserved
 loop-j-preserved c =
     next_told c.args.opening.now c.args.memory.now c.args.around.now c.requires.ready c.loop-j.j c.loop-j.memory c.loop-j.invariant
-    c.tell-one.new.memory c.loop-j-test.true c.tell-one.ensures
+    c.tell_one.new.memory c.loop-j-test.true c.tell_one.ensures
 
 pub returns : goal.returns
 returns c =

@@ -23,7 +23,7 @@ send-requires c =
     record {
       formed = c.requires.ready.formed;
       beside = c.requires.beside;
-      within = within o.ranges c.changes-adds.result.adds (filters_room o) _ c.changes-adds.ensures.few.0 (omega (arith, c.table-words-size.ensures.value, c.table-words-size.ensures.bound)) (c.changes-adds.auto.adds ∙ c.cleared-new.ensures);
+      within = within o.ranges c.changes-adds.result.adds (filters_room o) _ c.changes-adds.ensures.few.0 (omega (arith, c.table_words-size.ensures.value, c.table_words-size.ensures.bound)) (c.changes-adds.auto.adds ∙ c.cleared-new.ensures);
       room = omega arith;
     }
 
@@ -39,25 +39,25 @@ send-requires-2 c =
     record {
       formed = sent_formed o c.args.memory.now c.send.new.memory b c.args.n Add c.changes-adds.result.adds c.changes-adds.new.adds c.send.ensures;
       beside = c.requires.beside;
-      within = within o.ranges c.changes-adds.result.cuts (filters_room o) _ c.changes-adds.ensures.few.1 (omega (arith, c.table-words-size.ensures.value, c.table-words-size.ensures.bound)) (c.changes-adds.auto.cuts ∙ c.cleared-gone.ensures);
+      within = within o.ranges c.changes-adds.result.cuts (filters_room o) _ c.changes-adds.ensures.few.1 (omega (arith, c.table_words-size.ensures.value, c.table_words-size.ensures.bound)) (c.changes-adds.auto.cuts ∙ c.cleared-gone.ensures);
       room = room_after o s b c.args.n c.send.new.memory c.changes-adds.new.adds c.changes-adds.result.adds c.changes-adds.result.cuts c.send.ensures (omega arith);
     }
 
 pub announce-requires : goal.announce-requires
 announce-requires c =
     let o = c.args.opening.now in
-    let t = table_lent o c.args.memory.now c.args.around.now c.requires.ready c.args.n c.requires.beside c.table-words-size.result c.cleared-table.result.words c.changes-adds.new.table (omega (arith, c.cleared-table.ensures, c.table-words-size.ensures.bound)) c.changes-adds.auto.table c.changes-adds.ensures.table in
+    let t = table_lent o c.args.memory.now c.args.around.now c.requires.ready c.args.n c.requires.beside c.table_words-size.result c.cleared-table.result.words c.changes-adds.new.table (omega (arith, c.cleared-table.ensures, c.table_words-size.ensures.bound)) c.changes-adds.auto.table c.changes-adds.ensures.table in
     record {
       formed = sent_formed o c.send.new.memory c.send-2.new.memory c.args.around.now.broker c.args.n Cut c.changes-adds.result.cuts c.changes-adds.new.cuts c.send-2.ensures;
       beside = c.requires.beside;
-      table = table_keeps o c.args.memory.now c.args.around.now c.requires.ready c.args.n c.requires.beside c.table-words-size.result _ c.table-words-size.ensures.value t;
+      table = table_keeps o c.args.memory.now c.args.around.now c.requires.ready c.args.n c.requires.beside c.table_words-size.result _ c.table_words-size.ensures.value t;
     }
 
 pub returns : goal.returns
 returns c =
     let o = c.args.opening.now in
-    let t = table_lent o c.args.memory.now c.args.around.now c.requires.ready c.args.n c.requires.beside c.table-words-size.result c.cleared-table.result.words c.changes-adds.new.table (omega (arith, c.cleared-table.ensures, c.table-words-size.ensures.bound)) c.changes-adds.auto.table c.changes-adds.ensures.table in
+    let t = table_lent o c.args.memory.now c.args.around.now c.requires.ready c.args.n c.requires.beside c.table_words-size.result c.cleared-table.result.words c.changes-adds.new.table (omega (arith, c.cleared-table.ensures, c.table_words-size.ensures.bound)) c.changes-adds.auto.table c.changes-adds.ensures.table in
     told_one o c.args.memory.now c.args.around.now c.requires.ready c.args.n c.requires.beside c.send.new.memory c.send-2.new.memory c.announce.new.memory
     c.changes-adds.new.adds c.changes-adds.new.cuts _ c.changes-adds.result.adds c.changes-adds.result.cuts c.send.ensures c.send-2.ensures c.announce.ensures
     c.changes-adds.ensures.added c.changes-adds.ensures.gone
-    (table_is o c.args.memory.now c.args.around.now c.requires.ready c.args.n c.requires.beside c.table-words-size.result _ c.table-words-size.ensures.value t)
+    (table_is o c.args.memory.now c.args.around.now c.requires.ready c.args.n c.requires.beside c.table_words-size.result _ c.table_words-size.ensures.value t)

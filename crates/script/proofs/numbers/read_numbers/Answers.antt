@@ -5,7 +5,7 @@ use Rattle.script.proofs.numbers.read_numbers.Goals as goal
 
 pub loop-k-preserved : goal.loop-k-preserved
 loop-k-preserved c =
-    let p = take_more_set c.loop-k.numbers c.loop-k.k c.number-at.result (omega arith) in
+    let p = take_more_set c.loop-k.numbers c.loop-k.k c.number_at.result (omega arith) in
     let q = numbers_more c.loop-k.k c.args.input.now c.args.at in
     cc
 

@@ -15,7 +15,7 @@ returns-in-Join c =
     let t = length-take-le (n - 0) xs (omega arith) in
     let z : n - 0 ≡ n = omega arith in
     let p = written_front c.args.bytes.now front ns (length ns) (8 * c.args.ranges) (omega arith) refl refl (omega arith) in
-    let q = c.put-numbers.ensures ∙ ap (λ d. paste d 6 (flat_map four_bytes ns) (4 * length ns)) c.put-front.ensures in
+    let q = c.put_numbers.ensures ∙ ap (λ d. paste d 6 (flat_map four_bytes ns) (4 * length ns)) c.put_front.ensures in
     record {
       size = omega arith;
       front = ap (take (6 + 8 * c.args.ranges)) q ∙ (p ∙ (ap (λ k. front ++ flat_map four_bytes (take k xs)) z ∙ ap (written c.args.ranges) (sym c.in-Join.is)));
@@ -30,7 +30,7 @@ returns-in-Post c =
     let t = length-take-le (n - 0) xs (omega arith) in
     let z : n - 0 ≡ n = omega arith in
     let p = written_front c.args.bytes.now front ns (length ns) (4 * c.args.ranges) (omega arith) refl refl (omega arith) in
-    let q = c.put-numbers-in-Post.ensures ∙ ap (λ d. paste d 6 (flat_map four_bytes ns) (4 * length ns)) c.put-front-in-Post.ensures in
+    let q = c.put_numbers-in-Post.ensures ∙ ap (λ d. paste d 6 (flat_map four_bytes ns) (4 * length ns)) c.put_front-in-Post.ensures in
     record {
       size = omega arith;
       front = ap (take (6 + 4 * c.args.ranges)) q ∙ (p ∙ (ap (λ k. front ++ flat_map four_bytes (take k xs)) z ∙ ap (written c.args.ranges) (sym c.in-Post.is)));

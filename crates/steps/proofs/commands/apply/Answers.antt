@@ -15,11 +15,11 @@ returns-in-None c =
     let long : 2 * c.args.ranges ≤ length c.in-Add.filter.bounds = search rules in
     learned_words c.args.ranges c.args.message c.in-Add.filter c.args.learned.now c.in-Add.is long c.learn.new.learned c.learn.ensures.words
 
-pub returns-in-default : goal.returns-in-default
-returns-in-default c =
+pub returns-in_default : goal.returns-in_default
+returns-in_default c =
     let long : 2 * c.args.ranges ≤ length c.in-Add.filter.bounds = search rules in
     let some : 0 < length c.args.learned.now = omega (arith, c.requires.whole) in
-    learn_found c.args.ranges c.args.message c.in-Add.filter c.args.learned.now c.in-Add.is long _ c.in-default.field-0 c.in-default.ensures c.requires.order some
+    learn_found c.args.ranges c.args.message c.in-Add.filter c.args.learned.now c.in-Add.is long _ c.in_default.field-0 c.in_default.ensures c.requires.order some
 
 pub returns-in-Cut : goal.returns-in-Cut
 returns-in-Cut c = forgotten_words c.args.ranges c.args.message c.in-Cut.filter c.args.learned.now c.forget.new.learned c.in-Cut.is c.forget.ensures.words

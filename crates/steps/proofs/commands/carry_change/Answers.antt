@@ -63,32 +63,32 @@ settle-requires c =
       part = (omega arith, omega arith, omega arith);
     }
 
-pub returns-in-err-made : goal.returns-in-err-made
-returns-in-err-made c =
+pub returns-in_err-made : goal.returns-in_err-made
+returns-in_err-made c =
     let o = c.args.opening.now in
     let memory = c.args.memory.now in
     let p = message_in o.ranges (words o.ranges c.args.message) in
     let new = c.apply.new.learned in
     let holds = table_changed o memory c.requires.sound c.args.from c.args.to c.requires.beside p c.requires.oldest.0 c.requires.oldest.1 c.link.result c.place-at.result.at c.place-at.result.end c.link.ensures c.place-at.ensures.start c.place-at.ensures.stop new c.apply.ensures in
     let l = new_length o memory c.requires.sound c.args.from c.args.to c.requires.beside p c.requires.oldest.0 c.requires.oldest.1 c.link.result c.place-at.result.at c.place-at.result.end c.link.ensures c.place-at.ensures.start c.place-at.ensures.stop new c.apply.ensures in
-    let e = c.in-err-made.field-0.0 in
-    let q = answer_refused _ 0 e c.in-err-made.ensures.answer in
+    let e = c.in_err-made.field-0.0 in
+    let q = answer_refused _ 0 e c.in_err-made.ensures.answer in
     let r = change_refusal o memory c.requires.sound c.args.from c.args.to c.requires.beside p c.requires.oldest.0 c.requires.oldest.1 _ holds (change_is o.ranges c.args.message c.requires.change) c.surround-around.result.broker c.surround-around.ensures.broker in
     let back = put_back o memory 3 c.link.result c.place-at.result.at c.place-at.result.end c.requires.sound.formed.whole (link_learned o c.args.from c.args.to c.link.result c.requires.beside c.link.ensures)
     c.place-at.ensures.start c.place-at.ensures.stop new c.save-saved.result.words l c.save-saved.ensures.kept in
-    let done = refused_performed o memory (Carry c.args.from c.args.to) e c.requires.sound (sym r ∙ q) c.settle.new.memory (c.in-err-made.ensures.restored e refl ∙ back) in
-    let i = err_is c.from-residual.result e c.from-residual.ensures.1 in
+    let done = refused_performed o memory (Carry c.args.from c.args.to) e c.requires.sound (sym r ∙ q) c.settle.new.memory (c.in_err-made.ensures.restored e refl ∙ back) in
+    let i = err_is c.from_residual.result e c.from_residual.ensures.1 in
     subst (λ v. Performed o memory (Carry c.args.from c.args.to) v c.settle.new.memory) (sym i) done
 
-pub take-oldest-requires : goal.take-oldest-requires
-take-oldest-requires c =
+pub take_oldest-requires : goal.take_oldest-requires
+take_oldest-requires c =
     let o = c.args.opening.now in
     let memory = c.args.memory.now in
     let p = message_in o.ranges (words o.ranges c.args.message) in
     let holds = table_changed o memory c.requires.sound c.args.from c.args.to c.requires.beside p c.requires.oldest.0 c.requires.oldest.1 c.link.result c.place-at.result.at c.place-at.result.end c.link.ensures c.place-at.ensures.start c.place-at.ensures.stop c.apply.new.learned c.apply.ensures in
-    let q = answer_done _ 0 c.in-ok-made.made c.in-ok-made.ensures.answer in
+    let q = answer_done _ 0 c.in_ok-made.made c.in_ok-made.ensures.answer in
     record {
-      formed = told_formed o memory c.requires.sound c.args.from c.args.to c.requires.beside p c.requires.oldest.0 c.requires.oldest.1 _ holds (change_is o.ranges c.args.message c.requires.change) c.surround-around.result.broker c.surround-around.ensures.broker c.settle.new.memory (c.in-ok-made.ensures.told q.0);
+      formed = told_formed o memory c.requires.sound c.args.from c.args.to c.requires.beside p c.requires.oldest.0 c.requires.oldest.1 _ holds (change_is o.ranges c.args.message c.requires.change) c.surround-around.result.broker c.surround-around.ensures.broker c.settle.new.memory (c.in_ok-made.ensures.told q.0);
       beside = c.requires.beside;
     }
 
@@ -98,9 +98,9 @@ returns c =
     let memory = c.args.memory.now in
     let p = message_in o.ranges (words o.ranges c.args.message) in
     let holds = table_changed o memory c.requires.sound c.args.from c.args.to c.requires.beside p c.requires.oldest.0 c.requires.oldest.1 c.link.result c.place-at.result.at c.place-at.result.end c.link.ensures c.place-at.ensures.start c.place-at.ensures.stop c.apply.new.learned c.apply.ensures in
-    let q = answer_done _ 0 c.in-ok-made.made c.in-ok-made.ensures.answer in
+    let q = answer_done _ 0 c.in_ok-made.made c.in_ok-made.ensures.answer in
     let change = change_is o.ranges c.args.message c.requires.change in
     let r = change_refusal o memory c.requires.sound c.args.from c.args.to c.requires.beside p c.requires.oldest.0 c.requires.oldest.1 _ holds change c.surround-around.result.broker c.surround-around.ensures.broker in
-    let done = change_done o memory c.requires.sound c.args.from c.args.to c.requires.beside p c.requires.oldest.0 c.requires.oldest.1 _ holds change c.surround-around.result.broker c.surround-around.ensures.broker c.settle.new.memory (c.in-ok-made.ensures.told q.0)
-    c.take-oldest.new.memory c.take-oldest.ensures (sym r ∙ q.0) in
-    subst (λ n. Performed o memory (Carry c.args.from c.args.to) (Ok n) c.take-oldest.new.memory) (sym q.1) done
+    let done = change_done o memory c.requires.sound c.args.from c.args.to c.requires.beside p c.requires.oldest.0 c.requires.oldest.1 _ holds change c.surround-around.result.broker c.surround-around.ensures.broker c.settle.new.memory (c.in_ok-made.ensures.told q.0)
+    c.take_oldest.new.memory c.take_oldest.ensures (sym r ∙ q.0) in
+    subst (λ n. Performed o memory (Carry c.args.from c.args.to) (Ok n) c.take_oldest.new.memory) (sym q.1) done

@@ -34,15 +34,15 @@ arrive-requires c =
     let k = c.args.number in
     let e = take o.ranges c.args.notice.numbers in
     let ms = c.requires.oldest.0 in
-    let off = c.take-oldest.new.memory in
+    let off = c.take_oldest.new.memory in
     let now = lent_front o.ranges c.args.notice.numbers in
-    let f = c.take-oldest.ensures (notice k e) ms c.requires.oldest.1 in
+    let f = c.take_oldest.ensures (notice k e) ms c.requires.oldest.1 in
     let like = alike_held o off s (with_channel s a b ms) b f (alike_taken o s a b ms c.requires.beside) in
     record {
       formed = formed o off (with_channel s a b ms) f;
       there = (edge_brokers o a b c.requires.beside).1;
       reaches = reaches_alike o s (network_of o off) b a k e like c.find-reach.result (reaches_at o s c.surround-around.result.broker b a _ e c.find-reach.result c.surround-around.ensures.broker now c.find-reach.ensures);
-      room = sym (room_alike o s (network_of o off) b a k e like) ∙ asks_at o s b b a k _ e c.refused.result None refl now c.refused.ensures c.in-default.is;
+      room = sym (room_alike o s (network_of o off) b a k e like) ∙ asks_at o s b b a k _ e c.refused.result None refl now c.refused.ensures c.in_default.is;
       new = held_arrived o off (with_channel s a b ms) b f (carried_room o memory c.requires.sound a b c.requires.beside k e ms c.requires.oldest.1);
     }
 
@@ -58,5 +58,5 @@ returns c =
     let now = lent_front o.ranges c.args.notice.numbers in
     carried_performed o memory c.requires.sound a b c.requires.beside k e c.requires.oldest.0 c.requires.oldest.1 c.find-reach.result
     (reaches_at o s c.surround-around.result.broker b a _ e c.find-reach.result c.surround-around.ensures.broker now c.find-reach.ensures)
-    (asks_at o s b b a k _ e c.refused.result None refl now c.refused.ensures c.in-default.is)
-    c.take-oldest.new.memory c.arrive.new.memory (c.take-oldest.ensures (notice k e) c.requires.oldest.0 c.requires.oldest.1) c.arrive.ensures
+    (asks_at o s b b a k _ e c.refused.result None refl now c.refused.ensures c.in_default.is)
+    c.take_oldest.new.memory c.arrive.new.memory (c.take_oldest.ensures (notice k e) c.requires.oldest.0 c.requires.oldest.1) c.arrive.ensures

@@ -21,16 +21,16 @@ returns-in-Some c =
     let o = c.args.opening.now in
     let memory = c.args.memory.now in
     refused_performed o memory (Join c.args.broker c.args.number c.args.filter) c.in-Some.refusal c.requires
-    (join_too_large o (network_of o memory) c.args.broker c.args.number c.args.filter c.in-Some.refusal (asked c.args.number (2 * o.ranges) c.args.filter.bounds c.too-large.result (Some c.in-Some.refusal) c.too-large.ensures c.in-Some.is))
+    (join_too_large o (network_of o memory) c.args.broker c.args.number c.args.filter c.in-Some.refusal (asked c.args.number (2 * o.ranges) c.args.filter.bounds c.too_large.result (Some c.in-Some.refusal) c.too_large.ensures c.in-Some.is))
     memory refl
 
-pub returns-in-default-find : goal.returns-in-default-find
-returns-in-default-find c =
+pub returns-in_default-find : goal.returns-in_default-find
+returns-in_default-find c =
     let o = c.args.opening.now in
     let memory = c.args.memory.now in
-    let t = missed (ltb c.args.broker o.brokers) c.args.broker c.in-default-find.ensures in
+    let t = missed (ltb c.args.broker o.brokers) c.args.broker c.in_default-find.ensures in
     refused_performed o memory (Join c.args.broker c.args.number c.args.filter) (NoSuchBroker c.args.broker) c.requires
-    (join_nowhere o (network_of o memory) c.args.broker c.args.number c.args.filter (asked c.args.number (2 * o.ranges) c.args.filter.bounds c.too-large.result None c.too-large.ensures c.in-default.is) t)
+    (join_nowhere o (network_of o memory) c.args.broker c.args.number c.args.filter (asked c.args.number (2 * o.ranges) c.args.filter.bounds c.too_large.result None c.too_large.ensures c.in_default.is) t)
     memory refl
 
 pub returns-then-used : goal.returns-then-used
@@ -39,7 +39,7 @@ returns-then-used c =
     let memory = c.args.memory.now in
     let t = found (ltb c.args.broker o.brokers) c.args.broker c.in-Some-find.b c.in-Some-find.ensures in
     refused_performed o memory (Join c.args.broker c.args.number c.args.filter) (NumberUsed c.args.number) c.requires
-    (join_used o (network_of o memory) c.args.broker c.args.number c.args.filter (asked c.args.number (2 * o.ranges) c.args.filter.bounds c.too-large.result None c.too-large.ensures c.in-default.is) t (sym c.used.ensures ∙ c.if-used.true))
+    (join_used o (network_of o memory) c.args.broker c.args.number c.args.filter (asked c.args.number (2 * o.ranges) c.args.filter.bounds c.too_large.result None c.too_large.ensures c.in_default.is) t (sym c.used.ensures ∙ c.if-used.true))
     memory refl
 
 pub place-at-requires : goal.place-at-requires
@@ -67,8 +67,8 @@ join-requires c =
     let l = ltb-true c.args.broker o.brokers t in
     (o.valid.0.1, standing_shape o c.args.memory.now c.requires c.in-Some-find.b c.place-at.result.at c.place-at.result.end (omega arith) c.place-at.ensures.start c.place-at.ensures.stop)
 
-pub returns-in-default-join : goal.returns-in-default-join
-returns-in-default-join c =
+pub returns-in_default-join : goal.returns-in_default-join
+returns-in_default-join c =
     let o = c.args.opening.now in
     let memory = c.args.memory.now in
     let b = c.args.broker in
@@ -77,12 +77,12 @@ returns-in-default-join c =
     let t = found (ltb b o.brokers) b c.in-Some-find.b c.in-Some-find.ensures in
     let e = found_is (ltb b o.brokers) b c.in-Some-find.b c.in-Some-find.ensures in
     let st = lent_subscribers o memory c.requires.formed b at stop (ltb-true b o.brokers t) (c.place-at.ensures.start ∙ ap (start_of (plan_of o) 0) e) (c.place-at.ensures.stop ∙ ap (λ i. start_of (plan_of o) 0 i + size_of (plan_of o) 0) e) in
-    let full = answered_err (ltb (get_or (between at stop memory) 0 0) o.subscribers) tt (record {}) c.in-default-join.field-0 c.join.result c.join.ensures.answer c.in-default-join.is in
+    let full = answered_err (ltb (get_or (between at stop memory) 0 0) o.subscribers) tt (record {}) c.in_default-join.field-0 c.join.result c.join.ensures.answer c.in_default-join.is in
     let n = count_held o.subscribers o.ranges ((network_of o memory).subscribers b) (between at stop memory) st in
     let same : c.join.new.part ≡ between at stop memory =
     c.join.ensures.words ∙ cond-false (ltb (get_or (between at stop memory) 0 0) o.subscribers) (with_subscribers o.ranges (subscribers o.ranges (between at stop memory) ++ newcomer o.ranges c.args.number c.args.filter.bounds ∷ []) (between at stop memory)) (between at stop memory) full in
     refused_performed o memory (Join b c.args.number c.args.filter) (BrokerFull o.subscribers) c.requires
-    (join_full o (network_of o memory) b c.args.number c.args.filter (asked c.args.number (2 * o.ranges) c.args.filter.bounds c.too-large.result None c.too-large.ensures c.in-default.is) t (sym c.used.ensures ∙ c.if-used.false) (sym (ap (λ x. ltb x o.subscribers) n) ∙ full))
+    (join_full o (network_of o memory) b c.args.number c.args.filter (asked c.args.number (2 * o.ranges) c.args.filter.bounds c.too_large.result None c.too_large.ensures c.in_default.is) t (sym c.used.ensures ∙ c.if-used.false) (sym (ap (λ x. ltb x o.subscribers) n) ∙ full))
     (put_mid at (stop - at) memory c.join.new.part)
     (ap (put_mid at (stop - at) memory) same ∙ put_same at (stop - at) memory)
 
@@ -130,7 +130,7 @@ returns c =
     let free = sym c.used.ensures ∙ c.if-used.false in
     let holds = c.join.ensures.holds rs st (ltb-true (length rs) o.subscribers room) in
     settled_performed o memory c.requires b at stop there starts stops (rs ++ new ∷ []) c.join.new.part holds (Join b c.args.number c.args.filter)
-    (join_tells o (network_of o memory) b c.args.number c.args.filter (asked c.args.number (2 * o.ranges) c.args.filter.bounds c.too-large.result None c.too-large.ensures c.in-default.is) t free room)
+    (join_tells o (network_of o memory) b c.args.number c.args.filter (asked c.args.number (2 * o.ranges) c.args.filter.bounds c.too_large.result None c.too_large.ensures c.in_default.is) t free room)
     (step_joined o (network_of o memory) b c.args.number new.filter there free)
     c.save-saved.result.words c.save-saved.ensures.kept c.surround-around.result.broker (c.surround-around.ensures.broker ∙ e)
     c.settle.result c.settle.new.memory c.settle.ensures.answer c.settle.ensures.told c.settle.ensures.restored

@@ -21,16 +21,16 @@ returns-in-Some c =
     let o = c.args.opening.now in
     let memory = c.args.memory.now in
     refused_performed o memory (Leave c.args.broker c.args.number) c.in-Some.refusal c.requires
-    (leave_too_large o (network_of o memory) c.args.broker c.args.number c.in-Some.refusal (sym c.too-large.ensures ∙ c.in-Some.is))
+    (leave_too_large o (network_of o memory) c.args.broker c.args.number c.in-Some.refusal (sym c.too_large.ensures ∙ c.in-Some.is))
     memory refl
 
-pub returns-in-default-find : goal.returns-in-default-find
-returns-in-default-find c =
+pub returns-in_default-find : goal.returns-in_default-find
+returns-in_default-find c =
     let o = c.args.opening.now in
     let memory = c.args.memory.now in
-    let t = missed (ltb c.args.broker o.brokers) c.args.broker c.in-default-find.ensures in
+    let t = missed (ltb c.args.broker o.brokers) c.args.broker c.in_default-find.ensures in
     refused_performed o memory (Leave c.args.broker c.args.number) (NoSuchBroker c.args.broker) c.requires
-    (leave_nowhere o (network_of o memory) c.args.broker c.args.number (sym c.too-large.ensures ∙ c.in-default.is) t)
+    (leave_nowhere o (network_of o memory) c.args.broker c.args.number (sym c.too_large.ensures ∙ c.in_default.is) t)
     memory refl
 
 pub place-at-requires : goal.place-at-requires
@@ -58,8 +58,8 @@ leave-requires c =
     let l = ltb-true c.args.broker o.brokers t in
     (o.valid.0.1, subscribers_whole o c.args.memory.now c.requires.formed c.in-Some-find.b c.place-at.result.at c.place-at.result.end (omega arith) c.place-at.ensures.start c.place-at.ensures.stop)
 
-pub returns-in-default-leave : goal.returns-in-default-leave
-returns-in-default-leave c =
+pub returns-in_default-leave : goal.returns-in_default-leave
+returns-in_default-leave c =
     let o = c.args.opening.now in
     let memory = c.args.memory.now in
     let b = c.args.broker in
@@ -70,12 +70,12 @@ returns-in-default-leave c =
     let there = ltb-true b o.brokers t in
     let starts = c.place-at.ensures.start ∙ ap (start_of (plan_of o) 0) e in
     let stops = c.place-at.ensures.stop ∙ ap (λ i. start_of (plan_of o) 0 i + size_of (plan_of o) 0) e in
-    let absent = answered_err (known c.args.number (subscribers o.ranges (between at stop memory))) tt (record {}) c.in-default-leave.field-0 c.leave.result c.leave.ensures.answer c.in-default-leave.is in
+    let absent = answered_err (known c.args.number (subscribers o.ranges (between at stop memory))) tt (record {}) c.in_default-leave.field-0 c.leave.result c.leave.ensures.answer c.in_default-leave.is in
     let s = subscribers_there o memory c.requires.formed b at stop there starts stops in
     let same : c.leave.new.part ≡ between at stop memory =
     c.leave.ensures.words ∙ sym (left_none o.ranges c.args.number (between at stop memory) (subscribers_whole o memory c.requires.formed b at stop there starts stops) absent) in
     refused_performed o memory (Leave b c.args.number) (NotSubscribed c.args.number) c.requires
-    (leave_absent o (network_of o memory) b c.args.number (sym c.too-large.ensures ∙ c.in-default.is) t (sym (ap (known c.args.number) s) ∙ absent))
+    (leave_absent o (network_of o memory) b c.args.number (sym c.too_large.ensures ∙ c.in_default.is) t (sym (ap (known c.args.number) s) ∙ absent))
     (put_mid at (stop - at) memory c.leave.new.part)
     (ap (put_mid at (stop - at) memory) same ∙ put_same at (stop - at) memory)
 
@@ -118,7 +118,7 @@ returns c =
     let knows = sym (ap (known c.args.number) s) ∙ is-there in
     let holds = c.leave.ensures.holds o.subscribers rs st in
     settled_performed o memory c.requires b at stop there starts stops (dropped c.args.number rs) c.leave.new.part holds (Leave b c.args.number)
-    (leave_tells o (network_of o memory) b c.args.number (sym c.too-large.ensures ∙ c.in-default.is) t knows)
+    (leave_tells o (network_of o memory) b c.args.number (sym c.too_large.ensures ∙ c.in_default.is) t knows)
     (step_left o (network_of o memory) b c.args.number there knows)
     c.save-saved.result.words c.save-saved.ensures.kept c.surround-around.result.broker (c.surround-around.ensures.broker ∙ e)
     c.settle.result c.settle.new.memory c.settle.ensures.answer c.settle.ensures.told c.settle.ensures.restored

@@ -24,17 +24,17 @@ returns-in-Some c =
     let memory = c.args.memory.now in
     refused_performed o memory (Post c.args.broker c.args.number c.args.notice) c.in-Some.refusal c.requires
     (post_too_large o (network_of o memory) c.args.broker c.args.number c.args.notice c.in-Some.refusal
-    (asked c.args.number o.ranges c.args.notice.numbers c.too-large.result (Some c.in-Some.refusal) c.too-large.ensures c.in-Some.is))
+    (asked c.args.number o.ranges c.args.notice.numbers c.too_large.result (Some c.in-Some.refusal) c.too_large.ensures c.in-Some.is))
     memory refl
 
-pub returns-in-default-find : goal.returns-in-default-find
-returns-in-default-find c =
+pub returns-in_default-find : goal.returns-in_default-find
+returns-in_default-find c =
     let o = c.args.opening.now in
     let memory = c.args.memory.now in
-    let t = missed (ltb c.args.broker o.brokers) c.args.broker c.in-default-find.ensures in
+    let t = missed (ltb c.args.broker o.brokers) c.args.broker c.in_default-find.ensures in
     refused_performed o memory (Post c.args.broker c.args.number c.args.notice) (NoSuchBroker c.args.broker) c.requires
     (post_nowhere o (network_of o memory) c.args.broker c.args.number c.args.notice
-    (asked c.args.number o.ranges c.args.notice.numbers c.too-large.result None c.too-large.ensures c.in-default.is) t)
+    (asked c.args.number o.ranges c.args.notice.numbers c.too_large.result None c.too_large.ensures c.in_default.is) t)
     memory refl
 
 pub place-at-requires : goal.place-at-requires
@@ -61,7 +61,7 @@ returns-then-lists c =
     let p = lent_posted o memory (network_of o memory) c.requires.formed c.place-at.result.at c.place-at.result.end c.place-at.ensures.start c.place-at.ensures.stop in
     let used = sym (ap (λ ks. has ks k) (lists_read _ _ p)) ∙ (sym c.lists.ensures ∙ c.if-lists.true) in
     refused_performed o memory (Post b k c.args.notice) (NoticeUsed k) c.requires
-    (post_used o (network_of o memory) b k c.args.notice (asked k o.ranges c.args.notice.numbers c.too-large.result None c.too-large.ensures c.in-default.is) t used)
+    (post_used o (network_of o memory) b k c.args.notice (asked k o.ranges c.args.notice.numbers c.too_large.result None c.too_large.ensures c.in_default.is) t used)
     memory refl
 
 pub bounds-memory-at : goal.bounds-memory-at
@@ -92,7 +92,7 @@ returns-then-memory-at-ge-NOTICES c =
     let n = sym (first_word at stop memory (omega arith)) ∙ lists_count s.posted _ p in
     let g = c.if-memory-at-ge-NOTICES.true in
     refused_performed o memory (Post b k c.args.notice) (TooManyNotices 4096) c.requires
-    (post_full o s b k c.args.notice (asked k o.ranges c.args.notice.numbers c.too-large.result None c.too-large.ensures c.in-default.is) t free (le-ltb (length s.posted) 4096 (omega arith)))
+    (post_full o s b k c.args.notice (asked k o.ranges c.args.notice.numbers c.too_large.result None c.too_large.ensures c.in_default.is) t free (le-ltb (length s.posted) 4096 (omega arith)))
     memory refl
 
 pub returns-in-Some-refused : goal.returns-in-Some-refused
@@ -114,7 +114,7 @@ returns-in-Some-refused c =
     let n = sym (first_word at stop memory (omega arith)) ∙ lists_count s.posted _ p in
     let g = c.if-memory-at-ge-NOTICES.false in
     refused_performed o memory (Post b k c.args.notice) c.in-Some-refused.refusal c.requires
-    (post_asks o s b k c.args.notice (asked k o.ranges c.args.notice.numbers c.too-large.result None c.too-large.ensures c.in-default.is) t free (lt-ltb (length s.posted) 4096 (omega arith))
+    (post_asks o s b k c.args.notice (asked k o.ranges c.args.notice.numbers c.too_large.result None c.too_large.ensures c.in_default.is) t free (lt-ltb (length s.posted) 4096 (omega arith))
     ∙ asks_at o s c.in-Some-find.b b b k _ (take o.ranges c.args.notice.numbers) c.refused.result (Some c.in-Some-refused.refusal) e (lent_front o.ranges c.args.notice.numbers) c.refused.ensures c.in-Some-refused.is)
     memory refl
 
@@ -161,7 +161,7 @@ arrive-requires c =
       formed = formed o noted u f;
       there = omega arith;
       reaches = reaches_alike o s (network_of o noted) b m k e like c.find-reach.result (reaches_at o s c.surround-around.result.broker b m _ e c.find-reach.result c.surround-around.ensures.broker now c.find-reach.ensures);
-      room = sym (room_alike o s (network_of o noted) b m k e like) ∙ asks_at o s b b m k _ e c.refused.result None refl now c.refused.ensures c.in-default-refused.is;
+      room = sym (room_alike o s (network_of o noted) b m k e like) ∙ asks_at o s b b m k _ e c.refused.result None refl now c.refused.ensures c.in_default-refused.is;
       new = held_arrived o noted u b f (posted_room o memory c.requires b (omega arith));
     }
 
@@ -189,8 +189,8 @@ returns c =
     posted_performed o memory c.requires b k c.args.notice c.find-reach.result (ltb-true b o.brokers t)
     (reaches_at o s c.surround-around.result.broker b b _ e c.find-reach.result (c.surround-around.ensures.broker ∙ i) now c.find-reach.ensures)
     free
-    (post_asks o s b k c.args.notice (asked k o.ranges c.args.notice.numbers c.too-large.result None c.too-large.ensures c.in-default.is) t free (lt-ltb (length s.posted) 4096 (omega arith))
-    ∙ asks_at o s c.in-Some-find.b b b k _ e c.refused.result None i now c.refused.ensures c.in-default-refused.is)
+    (post_asks o s b k c.args.notice (asked k o.ranges c.args.notice.numbers c.too_large.result None c.too_large.ensures c.in_default.is) t free (lt-ltb (length s.posted) 4096 (omega arith))
+    ∙ asks_at o s c.in-Some-find.b b b k _ e c.refused.result None i now c.refused.ensures c.in_default-refused.is)
     noted c.arrive.new.memory
     (posted_written o memory s c.requires.formed at stop x y k c.note.new.log c.note.ensures.holds)
     (subst (λ a. Encodes o c.arrive.new.memory (arrive (tree o) a b k e (network_of o noted))) i c.arrive.ensures)

@@ -15,8 +15,8 @@ as_long n ys zs l h e =
 pub returns : goal.returns
 returns c =
     let xs = c.args.part.now in
-    let e = c.copy-from-slice.ensures.after in
+    let e = c.copy_from_slice.ensures.after in
     record {
-      kept = copied xs c.copy-from-slice.new.self _ e;
-      long = as_long (length xs) c.copy-from-slice.new.self (replicate {A = ℕ} 15601 0) (length-replicate {A = ℕ} 15601 0) c.requires (ap length e);
+      kept = copied xs c.copy_from_slice.new.self _ e;
+      long = as_long (length xs) c.copy_from_slice.new.self (replicate {A = ℕ} 15601 0) (length-replicate {A = ℕ} 15601 0) c.requires (ap length e);
     }

@@ -49,7 +49,7 @@ pub loop-b-preserved : goal.loop-b-preserved
 loop-b-preserved c =
     let o = c.args.opening.now in
     let s = subscribers_there o c.args.memory.now c.requires c.loop-b.b c.place-at.result.at c.place-at.result.end c.loop-b-test.true c.place-at.ensures.start c.place-at.ensures.stop in
-    let k = ap (known c.args.number) (sym s) ∙ missed _ _ c.in-default.ensures in
+    let k = ap (known c.args.number) (sym s) ∙ missed _ _ c.in_default.ensures in
     below_more (λ b. known c.args.number ((network_of o c.args.memory.now).subscribers b) ≡ false) c.loop-b.b c.loop-b.invariant k
 
 pub returns : goal.returns

@@ -21,14 +21,14 @@ loop-k-init c =
           rw (w.out-is, w.many-is, z) (told_none (tree_of o.hung (o.brokers - 1)) c.args.out.now)
     ]
 
-pub offset-bounds-out-many : goal.offset-bounds-out-many
-offset-bounds-out-many c = omega (arith, front_few _ _ _ _ _ _ c.loop-k.invariant c.loop-k.auto.k)
+pub offset_bounds-out-many : goal.offset_bounds-out-many
+offset_bounds-out-many c = omega (arith, front_few _ _ _ _ _ _ c.loop-k.invariant c.loop-k.auto.k)
 
 pub bounds-out-many : goal.bounds-out-many
 bounds-out-many c = omega (arith, front_few _ _ _ _ _ _ c.loop-k.invariant c.loop-k.auto.k)
 
-pub overflow-add-many : goal.overflow-add-many
-overflow-add-many c = omega (arith, front_few _ _ _ _ _ _ c.loop-k.invariant c.loop-k.auto.k)
+pub overflow_add-many : goal.overflow_add-many
+overflow_add-many c = omega (arith, front_few _ _ _ _ _ _ c.loop-k.invariant c.loop-k.auto.k)
 
 pub loop-k-preserved : goal.loop-k-preserved
 loop-k-preserved c =

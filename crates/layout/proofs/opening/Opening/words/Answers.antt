@@ -8,8 +8,8 @@ pub returns : goal.returns
 unfolding words_of
 returns c =
     let o = c.args.self.now in
-    let p = words_together o.brokers (2 * (o.brokers - 1)) c.subscribers-words-broker.result notices_words c.table-words.result c.channel-words.result notices_words deliveries_words in
-    let a = c.subscribers-words-broker.ensures.value in
-    let b = c.table-words.ensures.value in
-    let d = c.channel-words.ensures.value in
+    let p = words_together o.brokers (2 * (o.brokers - 1)) c.subscribers_words-broker.result notices_words c.table_words.result c.channel_words.result notices_words deliveries_words in
+    let a = c.subscribers_words-broker.ensures.value in
+    let b = c.table_words.ensures.value in
+    let d = c.channel_words.ensures.value in
     cc

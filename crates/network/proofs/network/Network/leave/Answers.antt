@@ -4,5 +4,5 @@ use Rattle.network.proofs.network.Network.leave.Goals as goal
 pub leave-requires : goal.leave-requires
 leave-requires c = network_sound c.args.self.now.opening c.args.self.now.memory.now c.args.self.now.sound
 
-pub invariant-of-self : goal.invariant-of-self
-invariant-of-self c = (∣ c.leave.ensures.sound ∣₁, tt)
+pub invariant_of-self : goal.invariant_of-self
+invariant_of-self c = record { sound = ∣ c.leave.ensures.sound ∣₁ }

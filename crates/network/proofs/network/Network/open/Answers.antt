@@ -4,11 +4,11 @@ use Rattle.layout.specs.Parts.{plan_of}
 use Rattle.network.proofs.Opened.{opened_sound, opened_empty}
 use Rattle.network.proofs.network.Network.open.Goals as goal
 
-pub invariant-of-result : goal.invariant-of-result
-invariant-of-result c =
+pub invariant_of-result : goal.invariant_of-result
+invariant_of-result c =
     let e : c.fill.new.self ≡ replicate (length c.fill.new.self) 0 = c.fill.ensures.after (λ y q. q) ∙ ap (λ n. replicate n 0) (sym c.fill.ensures.len) in
     let w : words_of (plan_of c.args.opening) ≤ length c.fill.new.self = omega (arith, c.fill.ensures.len) in
-    (∣ opened_sound c.args.opening c.fill.new.self w e ∣₁, tt)
+    record { sound = ∣ opened_sound c.args.opening c.fill.new.self w e ∣₁ }
 
 pub returns : goal.returns
 returns c =

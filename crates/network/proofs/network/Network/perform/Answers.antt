@@ -4,5 +4,5 @@ use Rattle.network.proofs.network.Network.perform.Goals as goal
 pub perform-requires : goal.perform-requires
 perform-requires c = network_sound c.args.self.now.opening c.args.self.now.memory.now c.args.self.now.sound
 
-pub invariant-of-self : goal.invariant-of-self
-invariant-of-self c = (∣ c.perform.ensures.sound ∣₁, tt)
+pub invariant_of-self : goal.invariant_of-self
+invariant_of-self c = record { sound = ∣ c.perform.ensures.sound ∣₁ }

@@ -6,8 +6,8 @@ use Rattle.network.proofs.network.Network.post.Goals as goal
 pub post-requires : goal.post-requires
 post-requires c = network_sound c.args.self.now.opening c.args.self.now.memory.now c.args.self.now.sound
 
-pub invariant-of-self : goal.invariant-of-self
-invariant-of-self c = (∣ c.post.ensures.sound ∣₁, tt)
+pub invariant_of-self : goal.invariant_of-self
+invariant_of-self c = record { sound = ∣ c.post.ensures.sound ∣₁ }
 
 pub returns : goal.returns
 returns c =

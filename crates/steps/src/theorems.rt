@@ -1,5 +1,5 @@
 // The laws of the rules, each demanded by a function's contract.
-ghost use Rattle.network.specs.Laws.{RulesAllow};
+ghost use Rattle.steps.specs.Laws.{RulesAllow};
 
 pub fn rules_stands() -> u8
     ensures { RulesAllow }

@@ -6,7 +6,7 @@ use Rattle.model.specs.Model.{Network, allowed, known, known_up_to, dropped, wit
 use Rattle.layout.specs.Parts.{tree}
 use Rattle.layout.proofs.Written.{tree_length}
 use Rattle.routing.specs.Rooms.{first, when, no_room_to_tell, no_room_to_pass, no_room_to_deliver}
-use Rattle.network.specs.Rules.{command_of, too_large, joined, receiving, refusal_of}
+use Rattle.steps.specs.Rules.{command_of, too_large, joined, receiving, refusal_of}
 use Rattle.layout.specs.declared.opening.Opening.{Opening}
 use Rattle.layout.specs.declared.command.Command.{Command}
 use Rattle.layout.specs.declared.command.Command.TheVariants.{Join, Leave, Post, Carry}

@@ -2,7 +2,7 @@
 use Rattle.std.specs.Prelude.{◌≡◌, true, false, Some, None}
 use Rattle.model.specs.Model.{Network, allowed}
 use Rattle.layout.specs.Parts.{tree}
-use Rattle.network.specs.Rules.{command_of, refusal_of}
+use Rattle.steps.specs.Rules.{command_of, refusal_of}
 use Rattle.layout.specs.declared.opening.Opening.{Opening}
 use Rattle.layout.specs.declared.command.Command.{Command}
 use Rattle.layout.specs.declared.refusal.Refusal.{Refusal}
