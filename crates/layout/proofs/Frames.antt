@@ -5,7 +5,7 @@ use Rattle.std.specs.List.{between}
 use Rattle.std.proofs.lemmas.Slice.{between_is, between-put_mid, take-put_mid_below, drop-put_mid}
 use Rattle.std.proofs.lemmas.Bool.{cases_order}
 use Rattle.std.proofs.lemmas.Bool.Decides.{nat_tests}
-use Rattle.layout.specs.Plan.{Plan, Kind, words_of, many_of, size_of, start_of, part, with_part, same_part, PartsLieApart}
+use Rattle.layout.specs.Plan.{Plan, Kind, words_of, many_of, size_of, start_of, part, with_part, same_part, PartApart}
 
 -- the end of the i-th of several rows
 row_end : (i n s : ℕ) → i < n → i * s + s ≤ n * s
@@ -86,7 +86,8 @@ part_kept p memory ys k i l j w h g m d = apart (parts_apart p k i l j h g d)
         let b = part_within p k i h in
         between_below (start_of p k i) (size_of p k) (start_of p l j) (start_of p l j + size_of p l) memory ys e (omega arith)
 
-pub parts_lie_apart : PartsLieApart
+pub parts_lie_apart :
+    (p : Plan) (memory ys : List ℕ) (k i : ℕ) → words_of p ≤ length memory → i < many_of p k → length ys ≡ size_of p k → PartApart p memory ys k i
 parts_lie_apart p memory ys k i w h l =
     record {
       within = part_within p k i h;

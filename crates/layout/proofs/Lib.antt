@@ -5,5 +5,6 @@ pub mod Encoded
 pub mod Frames
 pub mod Logged
 pub mod Openings
+pub mod Sized
 pub mod Spans
 pub mod Written

@@ -22,6 +22,7 @@ use Rattle.layout.specs.Mail.{Carries}
 use Rattle.layout.specs.State.{Encodes}
 use Rattle.layout.specs.Changed.{with_announced, with_table, with_channel, with_numbers, with_arrived, with_deliveries}
 use Rattle.layout.specs.declared.opening.Opening.{Opening}
+use Rattle.layout.proofs.Sized.{subscribers_size, announced_size, learned_size, channel_size}
 use Rattle.layout.proofs.Carried.{carries_length}
 use Rattle.layout.proofs.Channels.{links}
 use Rattle.layout.proofs.Frames.{part_within, part_written, part_kept}
@@ -170,7 +171,7 @@ module _ (o : Opening) (memory : List ℕ) (s : Network) (h : Encodes o memory s
       Encodes o (with_part (plan_of o) memory 0 b ys) (with_subscribers s b rs)
   unfolding many_of size_of
   put_subscribers b p rs ys q =
-      let l = (shape_held o.subscribers o.ranges rs ys q).0 in
+      let l = (shape_held o.subscribers o.ranges rs ys q).0 ∙ sym (subscribers_size o) in
       let r = rest o memory ys 0 b h.whole p l s h in
       record {
         whole = r.whole;
@@ -207,7 +208,7 @@ module _ (o : Opening) (memory : List ℕ) (s : Network) (h : Encodes o memory s
       Encodes o (with_part (plan_of o) memory 2 (link a b) ys) (with_announced s a b fs)
   unfolding many_of size_of
   put_announced a b p fs ys q =
-      let l = length_kept (filters_room o) o.ranges fs ys q in
+      let l = length_kept (filters_room o) o.ranges fs ys q ∙ sym (announced_size o) in
       let r = rest o memory ys 2 (link a b) h.whole (link_within_o o a b p) l s h in
       record {
         whole = r.whole;
@@ -226,7 +227,7 @@ module _ (o : Opening) (memory : List ℕ) (s : Network) (h : Encodes o memory s
       Encodes o (with_part (plan_of o) memory 3 (link a b) ys) (with_table s b a fs)
   unfolding many_of size_of
   put_learned a b p fs ys q =
-      let l = length_kept (filters_room o) o.ranges fs ys q in
+      let l = length_kept (filters_room o) o.ranges fs ys q ∙ sym (learned_size o) in
       let r = rest o memory ys 3 (link a b) h.whole (link_within_o o a b p) l s h in
       record {
         whole = r.whole;
@@ -245,7 +246,7 @@ module _ (o : Opening) (memory : List ℕ) (s : Network) (h : Encodes o memory s
       Encodes o (with_part (plan_of o) memory 4 (link a b) ys) (with_channel s a b ms)
   unfolding many_of size_of
   put_channel a b p ms ys q =
-      let l = carries_length o.messages o.ranges ms ys q in
+      let l = carries_length o.messages o.ranges ms ys q ∙ sym (channel_size o) in
       let r = rest o memory ys 4 (link a b) h.whole (link_within_o o a b p) l s h in
       record {
         whole = r.whole;

@@ -4,23 +4,19 @@ use Rattle.layout.specs.Plan.{Plan, words_of}
 
 -- each broker's subscribers: a count, then a number and a filter for each
 abbrev pub subscribers_words : ℕ → ℕ → ℕ
-subscribers_words ranges subscribers = 1 + (1 + 2 * ranges) * subscribers
+subscribers_words ranges subscribers = 1 + subscribers * (1 + 2 * ranges)
 
 -- the numbers of up to 4,096 notices, and their count: those that have arrived at a broker, and those posted
 abbrev pub notices_words : ℕ
 notices_words = 4097
 
--- how many filters a table has room for: from each other broker there may be its subscribers' filters, and one more while a change is under way
-abbrev pub table_room : ℕ → ℕ → ℕ
-table_room brokers subscribers = (brokers - 1) * (subscribers + 1)
-
--- a table of filters: a count, then the filters
+-- a table of filters: a count, then the filters. From each other broker there may be its subscribers' filters, and one more while a change is under way
 abbrev pub table_words : ℕ → ℕ → ℕ → ℕ
-table_words ranges brokers subscribers = 1 + 2 * ranges * table_room brokers subscribers
+table_words ranges brokers subscribers = 1 + ((brokers - 1) * (subscribers + 1)) * (2 * ranges)
 
 -- a channel: where its ring begins, a count, then for each message its kind, a notice's number, and the numbers of the filter or notice
 abbrev pub channel_words : ℕ → ℕ → ℕ
-channel_words ranges messages = 2 + (2 + 2 * ranges) * messages
+channel_words ranges messages = 2 + messages * (2 + 2 * ranges)
 
 -- up to 65,536 deliveries, a notice and a subscriber each, and their count
 abbrev pub deliveries_words : ℕ

@@ -1,9 +1,9 @@
 -- The parts of a network's memory, by what they hold.
-use Rattle.std.specs.Prelude.{ℕ, ◌-◌, List}
+use Rattle.std.specs.Prelude.{ℕ, ◌+◌, ◌-◌, ◌*◌, List}
 use Rattle.model.specs.Tree.{Tree}
 use Rattle.layout.specs.Links.{tree_of, link}
 use Rattle.layout.specs.Plan.{Plan, part}
-use Rattle.layout.specs.Memory.{plan, table_room}
+use Rattle.layout.specs.Memory.{plan}
 use Rattle.layout.specs.declared.opening.Opening.{Opening}
 
 -- the opening's tree of brokers, and how its memory is divided
@@ -15,7 +15,7 @@ plan_of o = plan o.ranges o.brokers o.subscribers o.messages
 
 -- how many filters each of its tables has room for
 abbrev pub filters_room : Opening → ℕ
-filters_room o = table_room o.brokers o.subscribers
+filters_room o = (o.brokers - 1) * (o.subscribers + 1)
 
 -- the subscribers of a broker, and the numbers of the notices that have arrived there
 abbrev pub subscribers_part : Opening → List ℕ → (broker : ℕ) → List ℕ

@@ -53,4 +53,4 @@ pub record PartApart (p : Plan) (memory ys : List ℕ) (k i : ℕ) : Type 0 wher
 
 abbrev pub PartsLieApart : Type 0
 PartsLieApart =
-    (p : Plan) (memory ys : List ℕ) (k i : ℕ) → words_of p ≤ length memory → i < many_of p k → length ys ≡ size_of p k → PartApart p memory ys k i
+    (p : Plan) (memory ys : List ℕ) (k i : ℕ) → length memory ≡ words_of p → i < many_of p k → length ys ≡ size_of p k → PartApart p memory ys k i

@@ -16,7 +16,7 @@ pub fn subscribers_words(opening: &Opening) -> usize
     ensures value { result ≡ subscribers_words opening.now.ranges opening.now.subscribers }
     ensures bound { result ≤ 1089 }
 {
-    1 + (1 + 2 * opening.ranges) * opening.subscribers
+    1 + opening.subscribers * (1 + 2 * opening.ranges)
 }
 
 pub fn table_words(opening: &Opening) -> usize
@@ -24,14 +24,14 @@ pub fn table_words(opening: &Opening) -> usize
     ensures bound { result ≤ 15601 }
 {
     let room = (opening.brokers - 1) * (opening.subscribers + 1);
-    1 + 2 * opening.ranges * room
+    1 + room * (2 * opening.ranges)
 }
 
 pub fn channel_words(opening: &Opening) -> usize
     ensures value { result ≡ channel_words opening.now.ranges opening.now.messages }
     ensures bound { result ≤ 589826 }
 {
-    2 + (2 + 2 * opening.ranges) * opening.messages
+    2 + opening.messages * (2 + 2 * opening.ranges)
 }
 
 impl Opening {

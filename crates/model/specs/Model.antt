@@ -1,10 +1,10 @@
 -- The network: brokers in a tree, what they have learned of each other's filters, what is under way between them, and what each command does.
 use Rattle.std.specs.Prelude.{◌≡◌, ℕ, zero, suc, ◌≤◌, Bool, false, cond, not, ◌&&◌, ◌||◌, List, [], ◌∷◌, ◌++◌, length, ◌==◌, nat_le}
 use Rattle.filter.specs.Filter.{Filter, Notice, matches}
-use Rattle.cover.specs.Maximal.{put, without, any_matches, minus}
+use Rattle.cover.specs.Maximal.{put, without, maximal, any_matches, minus}
 pub use Rattle.broker.specs.Subscribers.{Subscriber}
 unfoldable pub use Rattle.broker.specs.Subscribers.{filters_of, known, filter_of, dropped}
-unfoldable pub use Rattle.broker.specs.Announcing.{from_others, to_announce}
+unfoldable pub use Rattle.broker.specs.Announcing.{from_others}
 use Rattle.model.specs.Tree.{Tree, neighbours, has}
 
 -- what goes from broker to broker: a filter more, a filter less, a notice with its number
@@ -42,6 +42,10 @@ at1 f i a j = cond (j == i) a (f j)
 
 abbrev pub at2 : {A : Type 0} → (ℕ → ℕ → A) → ℕ → ℕ → A → ℕ → ℕ → A
 at2 f i j a k l = cond (k == i && l == j) a (f k l)
+
+-- what a broker has to announce to n beside it: the maximal filters of its own subscribers and of what it has learned from the others beside it
+unfoldable pub to_announce : List Subscriber → (ℕ → List Filter) → List ℕ → ℕ → List Filter
+to_announce own table ns n = maximal (filters_of own ++ from_others table n ns)
 
 abbrev pub announcement : Tree → Network → (b n : ℕ) → List Filter
 announcement t s b n = to_announce (s.subscribers b) (s.learned b) (beside t s b) n

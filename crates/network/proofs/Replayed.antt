@@ -22,6 +22,7 @@ use Rattle.layout.specs.Parts.{tree, filters_room}
 use Rattle.layout.specs.Mail.{row_for, message_in, Sized, Carries}
 use Rattle.layout.specs.State.{network_of}
 use Rattle.steps.specs.Sound.{Sound}
+use Rattle.layout.proofs.Sized.{table_size}
 use Rattle.layout.specs.declared.opening.Opening.{Opening}
 use Rattle.routing.proofs.Compared.{kept_whole}
 use Rattle.steps.proofs.Oldest.{read_back}
@@ -71,7 +72,7 @@ replay_begins o memory sound a b e P table is =
     let k = sound.formed.learned a b e in
     record {
       now = s.learned b a;
-      words = record { words = is; wide = k.wide; fits = k.fits };
+      words = record { words = is ∙ ap (λ k. laid (2 * o.ranges) k (s.learned b a)) (table_size o); wide = k.wide; fits = k.fits };
       ordered = sound.invariant.right.tables.learned_sorted b a;
       short =
           lasts_weaker (short (bound (tree o) o.subscribers b a)) (short (filters_room o))
@@ -133,9 +134,9 @@ pub replay_covers : (room m : ℕ) (P : List Filter → Bool) (ms : List Message
 replay_covers room m P ms fs i table h f l = ap (λ w. any_covers (held w table) f) l ∙ ap (λ gs. any_covers gs f) (held_kept room m h.now table h.words)
 
 -- the words of a table, from where they were saved
-pub saved_table : (room m : ℕ) (fs : List Filter) (ws saved : List ℕ) → Keeps room m fs ws → take (length ws) saved ≡ ws → (size : ℕ) → size ≡ 1 + 2 * m * room →
-    take (size - 0) saved ≡ laid (2 * m) (1 + 2 * m * room) fs
-saved_table room m fs ws saved k e size is =
+pub saved_table : (room m : ℕ) (fs : List Filter) (ws saved : List ℕ) → Keeps room m fs ws → take (length ws) saved ≡ ws → (size words : ℕ) → size ≡ words → words ≡ 1 + 2 * m * room →
+    take (size - 0) saved ≡ laid (2 * m) words fs
+saved_table room m fs ws saved k e size words is sized =
     let l = length_kept room m fs ws k in
     let n : size - 0 ≡ length ws = omega arith in
-    ap (λ j. take j saved) n ∙ e ∙ k.words
+    ap (λ j. take j saved) n ∙ e ∙ k.words ∙ ap (λ j. laid (2 * m) j fs) (sym sized)

@@ -1,5 +1,5 @@
 -- What is to be announced, compared with what was announced last: both lie in tables of the same size, and so do what is new and what is no more.
-use Rattle.std.proofs.Common.{◌≡◌, ℕ, ◌+◌, ◌-◌, ◌*◌, ◌≤◌, true, List, ◌++◌, length, get_or, mul-le-mul, mul-le-mul_left, arith}
+use Rattle.std.proofs.Common.{◌≡◌, ℕ, ◌+◌, ◌-◌, ◌*◌, ◌≤◌, true, List, ◌++◌, length, get_or, ap, ◌∙◌, mul-le-mul, mul-le-mul_left, arith}
 use Rattle.std.specs.List.{between}
 use Rattle.filter.specs.Filter.{Filter}
 use Rattle.cover.specs.Maximal.{minus}
@@ -19,6 +19,7 @@ use Rattle.routing.specs.Around.{Ready}
 use Rattle.layout.specs.declared.opening.Opening.{Opening}
 use Rattle.routing.specs.declared.around.Around.{Around}
 use Rattle.routing.proofs.Announced.{announcement_fits, announcement_wide}
+use Rattle.layout.proofs.Sized.{table_size}
 use Rattle.layout.proofs.Written.{lent_part}
 
 -- the filters that a table keeps lie within its words
@@ -55,7 +56,7 @@ pub found_kept :
     words ≡ table_words o.ranges o.brokers o.subscribers → new ≡ laid (2 * o.ranges) words (announcement (tree o) (network_of o memory) a.broker n) →
     Keeps (filters_room o) o.ranges (announcement (tree o) (network_of o memory) a.broker n) new
 found_kept o memory a ready n beside words new l e =
-    record { words = rw l at e; wide = announcement_wide o memory a ready n beside; fits = announcement_fits o memory a ready n beside }
+    record { words = e ∙ ap (λ k. laid (2 * o.ranges) k (announcement (tree o) (network_of o memory) a.broker n)) (l ∙ table_size o); wide = announcement_wide o memory a ready n beside; fits = announcement_fits o memory a ready n beside }
 
 -- the filters of one table that another lacks, counted and written over the front of a row, by the filters that the tables keep
 pub record Lacks (room m : ℕ) (fs gs : List Filter) (k : ℕ) (out : List ℕ) : Type 0 where

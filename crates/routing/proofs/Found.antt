@@ -21,7 +21,7 @@ use Rattle.layout.specs.State.{network_of, Formed}
 use Rattle.routing.specs.Around.{Surrounds, Ready}
 use Rattle.layout.specs.declared.opening.Opening.{Opening}
 use Rattle.routing.specs.declared.around.Around.{Around}
-use Rattle.routing.proofs.Announced.{known_fits}
+use Rattle.routing.proofs.Announced.{known_fits, announces_alike}
 use Rattle.layout.proofs.Frames.{part_within}
 use Rattle.routing.proofs.Surrounded.{neighbour_edge}
 use Rattle.layout.proofs.Written.{link_within_o}
@@ -119,7 +119,9 @@ module _ (o : Opening) (memory : List ℕ) (a : Around) (mem : Formed o memory) 
       announcement_found words out h =
           let q = own_subscribers in
           let r = h ((network_of o memory).learned a.broker) (rw beside table_known) in
-          rw (mine, beside, q) at r
+          let s = network_of o memory in
+          let x : out ≡ laid (2 * o.ranges) words (to_announce (s.subscribers a.broker) (s.learned a.broker) (neighbours (tree o) a.broker) n) = rw (mine, beside, q) at r in
+          x ∙ ap (laid (2 * o.ranges) words) (announces_alike (s.subscribers a.broker) (s.learned a.broker) (neighbours (tree o) a.broker) n)
 
     -- whom a notice goes on to
     pub wanting_found : (ns : List ℕ) (from : ℕ) (e : Notice) → ns ≡ neighbours (tree o) a.broker →

@@ -32,6 +32,7 @@ use Rattle.routing.specs.declared.around.Around.{Around}
 use Rattle.routing.proofs.Announced.{announcement_fits, announcement_wide}
 use Rattle.layout.proofs.Encoded.{reads, formed}
 use Rattle.routing.proofs.Room.{length_telling, full_none, around_many, around_at, around_within, around_has}
+use Rattle.layout.proofs.Sized.{table_size}
 use Rattle.layout.proofs.Written.{tree_hung}
 
 -- what was written at a place is there, and what is written there next takes its place
@@ -86,7 +87,7 @@ module _ (o : Opening) (memory : List ℕ) (a : Around) (ready : Ready o memory 
   table_keeps size table e t =
       subst (λ fs. Keeps (filters_room o) o.ranges fs table) (sym (table_is size table e t))
       (record {
-        words = t ∙ ap (λ k. laid (2 * o.ranges) k (announcement (tree o) (network_of o memory) a.broker n)) e;
+        words = t ∙ ap (λ k. laid (2 * o.ranges) k (announcement (tree o) (network_of o memory) a.broker n)) (e ∙ table_size o);
         wide = announcement_wide o memory a ready n beside;
         fits = announcement_fits o memory a ready n beside;
       })

@@ -28,6 +28,7 @@ use Rattle.layout.proofs.Encoded.{reads, formed}
 use Rattle.steps.proofs.Lent.{lent_subscribers}
 use Rattle.steps.proofs.Performing.{refused_performed, done_performed}
 use Rattle.steps.proofs.Restored.{put_back}
+use Rattle.layout.proofs.Sized.{subscribers_size}
 use Rattle.layout.proofs.Spans.{subscribers_few}
 use Rattle.layout.proofs.Written.{lent, tree_length, tree_hung, put_subscribers}
 
@@ -164,4 +165,4 @@ module _ (o : Opening) (memory : List ℕ) (h : Sound o memory) (b at stop : ℕ
             let z : r ≡ Err e = says ∙ ap (λ x. answer x 0) (asks ∙ q) in
             subst (λ x. Performed o memory d x memory₁) (sym z)
             (refused_performed o memory d e h (rule ∙ q) memory₁
-            (back e z ∙ put_back o memory 0 b at stop h.formed.whole there starts stops new saved (shape_held o.subscribers o.ranges rs new holds).0 kept))
+            (back e z ∙ put_back o memory 0 b at stop h.formed.whole there starts stops new saved ((shape_held o.subscribers o.ranges rs new holds).0 ∙ sym (subscribers_size o)) kept))

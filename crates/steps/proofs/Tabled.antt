@@ -37,6 +37,7 @@ use Rattle.routing.proofs.Compared.{kept_whole}
 use Rattle.layout.proofs.Encoded.{reads, formed}
 use Rattle.steps.proofs.Lent.{lent_learned}
 use Rattle.steps.proofs.Performing.{done_performed}
+use Rattle.layout.proofs.Sized.{learned_size}
 use Rattle.layout.proofs.Written.{lent, tree_length, tree_hung, put_learned}
 
 pub wide_after : (m : ℕ) (p : Message) (fs : List Filter) → Sized m p → Wide (2 * m) fs → Wide (2 * m) (after p fs)
@@ -124,8 +125,7 @@ module _ (o : Opening) (memory : List ℕ) (sound : Sound o memory) (a b : ℕ) 
           (is ∙ ap (λ fs. stored (2 * o.ranges) (after p fs) (between at stop memory)) held_there)
 
       pub new_length : length new ≡ size_of (plan_of o) 3
-      unfolding size_of
-      new_length = length_kept (filters_room o) o.ranges then new table_then
+      new_length = length_kept (filters_room o) o.ranges then new table_then ∙ sym (learned_size o)
 
       pub table_changed : Encodes o (put_mid at (stop - at) memory new) (with_table (network_of o memory) b a then)
       table_changed =

@@ -1,6 +1,7 @@
 use Rattle.std.proofs.Common.{arith}
 use Rattle.broker.proofs.Kept.{length_kept}
 use Rattle.layout.specs.Parts.{filters_room}
+use Rattle.layout.proofs.Sized.{table_size}
 use Rattle.steps.proofs.Lent.{link_learned, lent_learned}
 use Rattle.network.proofs.Replayed.{saved_table}
 use Rattle.steps.proofs.Restored.{table_small}
@@ -29,5 +30,5 @@ replay-requires c =
       sound = c.requires.sound;
       beside = c.requires.beside;
       wide = c.requires.wide;
-      table = saved_table (filters_room o) o.ranges _ _ c.save-table.result.words k c.save-table.ensures.kept c.table_words-size.result c.table_words-size.ensures.value;
+      table = saved_table (filters_room o) o.ranges _ _ c.save-table.result.words k c.save-table.ensures.kept c.table_words-size.result _ c.table_words-size.ensures.value (table_size o);
     }
