@@ -8,7 +8,7 @@ use Rattle.filter.specs.Filter.{Filter}
 use Rattle.cover.specs.Maximal.{among}
 use Rattle.cover.specs.Table.{rows, written, Wide, held, stored, laid}
 use Rattle.cover.proofs.RowLaws.{wide_head, wide_tail, length_written}
-use Rattle.cover.proofs.TableLaws.{length_held, wide_held, relaid, stored_same, stored_pushed, stored_removed, wide_cons, held_laid, stored_laid, laid_none}
+use Rattle.cover.proofs.TableLaws.{wide_held, relaid, stored_same, stored_pushed, stored_removed, wide_cons, held_laid, stored_laid, laid_none}
 use Rattle.broker.specs.Subscribers.{Subscriber, row_of, subscriber, subscribers, with_subscribers, encode, Holds, Whole, Shape, known, ahead, dropped}
 use Rattle.broker.proofs.Slots.{dropped_at, dropped_none, length_dropped, all_dropped}
 

@@ -1,5 +1,5 @@
 -- A batch of messages: the words of each, and the rows that a channel holds after all were appended.
-use Rattle.std.proofs.Common.{◌≡◌, ℕ, zero, suc, ◌+◌, ◌-◌, ◌*◌, ◌<◌, ◌≤◌, List, [], ◌∷◌, ◌++◌, map, length, take, drop, replicate, refl, ap, ◌∙◌, mul-suc, arith}
+use Rattle.std.proofs.Common.{◌≡◌, ℕ, zero, suc, ◌+◌, ◌*◌, ◌<◌, ◌≤◌, List, [], ◌∷◌, ◌++◌, map, length, take, drop, replicate, refl, ap, ◌∙◌, mul-suc, arith}
 use Rattle.std.proofs.lemmas.List.{append-nil, append_assoc, drop-map, drop_all, length-map, length-drop, length_push, length-take-le, take_at, take-take}
 use Rattle.filter.specs.Filter.{padded}
 use Rattle.cover.specs.Table.{rows}

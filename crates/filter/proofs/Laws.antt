@@ -1,5 +1,5 @@
 -- The laws of covering, of matching and of the order of filters.
-use Rattle.std.proofs.Common.{◌≡◌, ℕ, zero, suc, ◌+◌, ◌*◌, ◌%◌, ◌<◌, ◌≤◌, Bool, true, false, cond, not, ◌&&◌, eqb, ltb, leb, ◌⊎◌, List, [], ◌∷◌, ◌++◌, length, replicate, sym, refl, ap, ◌∙◌, inl, inr, arith}
+use Rattle.std.proofs.Common.{◌≡◌, ◌%◌, Bool, true, false, not, ◌&&◌, ◌⊎◌, [], ◌∷◌, length, refl, inl, inr, arith}
 use Rattle.std.proofs.lemmas.Bool.Decides.{nat_tests}
 use Rattle.filter.specs.Laws.{OrderStrictTotal}
 use Rattle.filter.specs.Filter.{Filter, Notice, matches, covers, same, before}

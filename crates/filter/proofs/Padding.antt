@@ -1,7 +1,6 @@
 -- A row that is filled up with zeros: what a copy into a cleared array holds, and that the zeros change no test.
-use Rattle.std.proofs.Common.{◌≡◌, ℕ, zero, suc, ◌+◌, ◌-◌, ◌*◌, ◌%◌, ◌<◌, ◌≤◌, min, Bool, true, false, cond, ◌&&◌, eqb, ltb, leb, List, [], ◌∷◌, ◌++◌, length, take, drop, replicate, sym, refl, ap, ◌∙◌, arith, rules}
+use Rattle.std.proofs.Common.{◌≡◌, ℕ, zero, suc, ◌-◌, ◌*◌, ◌%◌, ◌≤◌, min, true, List, [], ◌∷◌, ◌++◌, length, take, drop, replicate, refl, arith, rules}
 use Rattle.std.proofs.lemmas.List.{places, same_lists, take_all, drop-replicate, length-replicate}
-use Rattle.std.proofs.lemmas.Bool.Decides.{nat_tests}
 use Rattle.filter.specs.Laws.{PaddingChangesNothing}
 use Rattle.filter.proofs.Laws.{covers_refl, same_refl, before_irrefl}
 use Rattle.filter.specs.Filter.{Filter, Notice, matches, covers, same, before, padded}

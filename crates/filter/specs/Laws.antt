@@ -1,6 +1,6 @@
 -- What holds of every filter and notice: covering is an order that keeps its word on notices, `before` is a strict and total order that decides
 -- equality, and the zeros that fill a filter up change no test.
-use Rattle.std.specs.Prelude.{◌≡◌, ℕ, ◌*◌, ◌≤◌, Bool, true, false, not, ◌&&◌, ◌⊎◌, length}
+use Rattle.std.specs.Prelude.{◌≡◌, ℕ, ◌*◌, ◌≤◌, true, false, not, ◌&&◌, ◌⊎◌, length}
 use Rattle.filter.specs.Filter.{Filter, Notice, matches, covers, same, before, padded}
 
 abbrev pub CoversTransitive : Type 0

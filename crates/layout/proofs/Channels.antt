@@ -1,10 +1,10 @@
 -- The tree of an opening, and that each of its channels has a number of its own.
-use Rattle.std.proofs.Common.{◌≡◌, ℕ, zero, suc, ◌+◌, ◌-◌, ◌*◌, ◌<◌, ◌≤◌, Bool, true, false, cond, ◌&&◌, ◌||◌, eqb, ltb, leb, ◌⊎◌, List, [], ◌∷◌, length, get_or, sym, refl, ap, ◌∙◌, inl, inr, arith}
+use Rattle.std.proofs.Common.{◌≡◌, ℕ, zero, suc, ◌+◌, ◌-◌, ◌*◌, ◌<◌, ◌≤◌, Bool, true, false, cond, eqb, ◌⊎◌, List, length, get_or, sym, refl, ap, ◌∙◌, inl, inr, arith}
 use Rattle.std.proofs.lemmas.Bool.{or_cases}
 use Rattle.std.proofs.lemmas.Bool.Decides.{nat_tests}
 use Rattle.layout.specs.Opening.{HangsTogether}
-use Rattle.model.specs.Tree.{Tree, hangs, up, neighbours, has, edge, hangs_on}
-use Rattle.layout.specs.Links.{tree_of, link, LinksOf, Links}
+use Rattle.model.specs.Tree.{Tree, hangs, up, neighbours, has, hangs_on}
+use Rattle.layout.specs.Links.{tree_of, link, Links}
 use Rattle.model.proofs.Tree.{up_less, edge_up, neighbours_edge}
 
 length_tree : (hung : List ℕ) (k : ℕ) → length (tree_of hung k) ≡ k

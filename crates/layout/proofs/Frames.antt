@@ -1,11 +1,11 @@
 -- Parts of a row of words lie within it and apart from each other, so what is written to one is there, and leaves the others as they were.
-use Rattle.std.proofs.Common.{◌≡◌, ℕ, zero, suc, ◌+◌, ◌-◌, ◌*◌, ◌<◌, ◌≤◌, Bool, true, false, cond, ◌&&◌, eqb, ◌⊎◌, List, [], ◌∷◌, ◌++◌, length, take, drop, sym, refl, ap, ◌∙◌, inl, inr, mul-le-mul_right, mul-add, arith, rules}
+use Rattle.std.proofs.Common.{◌≡◌, ℕ, zero, suc, ◌+◌, ◌-◌, ◌*◌, ◌<◌, ◌≤◌, false, ◌⊎◌, List, [], ◌∷◌, length, take, ap, inl, inr, mul-le-mul_right, mul-add, arith}
 use borrow.Rule.Slice.PartMut.{put_mid}
 use Rattle.std.specs.List.{between}
 use Rattle.std.proofs.lemmas.Slice.{between_is, between-put_mid, take-put_mid_below, drop-put_mid}
 use Rattle.std.proofs.lemmas.Bool.{cases_order}
 use Rattle.std.proofs.lemmas.Bool.Decides.{nat_tests}
-use Rattle.layout.specs.Plan.{Plan, Kind, words_of, many_of, size_of, start_of, part, with_part, same_part, PartApart}
+use Rattle.layout.specs.Plan.{Plan, words_of, many_of, size_of, start_of, part, with_part, same_part, PartApart}
 
 -- the end of the i-th of several rows
 row_end : (i n s : ℕ) → i < n → i * s + s ≤ n * s

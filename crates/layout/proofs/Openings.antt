@@ -1,9 +1,8 @@
 -- What an opening's checks come to: where no broker is found loose, each hangs on one before it.
-use Rattle.std.proofs.Common.{◌≡◌, ℕ, zero, suc, ◌+◌, ◌-◌, ◌<◌, ◌≤◌, Bool, true, false, cond, ◌&&◌, ltb, leb, ◌⊎◌, List, [], ◌∷◌, ◌++◌, length, get_or, take, drop, replicate, Some, None, Option, refl, ap, inl, inr, arith, rules}
+use Rattle.std.proofs.Common.{◌≡◌, ℕ, zero, suc, ◌+◌, ◌-◌, ◌<◌, ◌≤◌, Bool, true, false, cond, ltb, ◌⊎◌, List, ◌∷◌, ◌++◌, length, get_or, take, drop, replicate, Some, None, refl, ap, inl, inr, arith, rules}
 use Rattle.std.proofs.lemmas.List.{places, same_lists, get_or_past, get_or_default}
 use Rattle.std.proofs.lemmas.Bool.{cases_order}
 use Rattle.std.proofs.lemmas.Bool.Decides.{nat_tests}
-use Rattle.filter.specs.Filter.{padded}
 use Rattle.layout.specs.Opening.{HangsTogether, hangs, first_loose, hung_of, FindsTheFirstLoose}
 
 -- one broker more

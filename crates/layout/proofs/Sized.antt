@@ -1,5 +1,5 @@
 -- How many words a part takes, by the words of each thing that it has room for.
-use Rattle.std.proofs.Common.{◌≡◌, ℕ, ◌+◌, ◌*◌, ap, mul_comm}
+use Rattle.std.proofs.Common.{◌≡◌, ◌+◌, ◌*◌, ap, mul_comm}
 use Rattle.layout.specs.Memory.{table_words}
 use Rattle.layout.specs.Plan.{size_of}
 use Rattle.layout.specs.Parts.{plan_of, filters_room}

@@ -1,5 +1,5 @@
 -- Where the parts of a network's memory begin, and that the memory is small enough to be counted.
-use Rattle.std.proofs.Common.{◌≡◌, ℕ, zero, suc, ◌+◌, ◌-◌, ◌*◌, ◌<◌, ◌≤◌, [], ◌∷◌, sym, refl, ap, ◌∙◌, mul-le-mul, mul-zero, arith}
+use Rattle.std.proofs.Common.{◌≡◌, ℕ, zero, suc, ◌+◌, ◌-◌, ◌*◌, ◌<◌, ◌≤◌, [], ◌∷◌, refl, mul-le-mul, mul-zero, arith}
 use Rattle.layout.specs.Memory.{subscribers_words, table_words, channel_words}
 use Rattle.layout.specs.Plan.{Plan, words_of, many_of, size_of, start_of}
 use Rattle.layout.specs.Parts.{plan_of}

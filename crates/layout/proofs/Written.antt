@@ -12,7 +12,7 @@ use Rattle.broker.specs.Announcing.{Keeps}
 use Rattle.broker.proofs.Part.{shape_held}
 use Rattle.broker.proofs.Kept.{length_kept}
 use Rattle.model.specs.Tree.{hangs, edge, has, neighbours}
-use Rattle.model.specs.Model.{Message, Delivery, Network, at1, at2, with_subscribers}
+use Rattle.model.specs.Model.{Message, Delivery, Network, at1, with_subscribers}
 use Rattle.model.proofs.Tree.{edge_within, neighbours_edge}
 use Rattle.layout.specs.Links.{link, LinksOf}
 use Rattle.layout.specs.Plan.{Plan, words_of, many_of, size_of, start_of, part, with_part, same_part}

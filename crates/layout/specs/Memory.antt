@@ -1,5 +1,5 @@
 -- The memory of a network, part by part, and how many words it takes.
-use Rattle.std.specs.Prelude.{ℕ, ◌+◌, ◌-◌, ◌*◌, List, [], ◌∷◌}
+use Rattle.std.specs.Prelude.{ℕ, ◌+◌, ◌-◌, ◌*◌, [], ◌∷◌}
 use Rattle.layout.specs.Plan.{Plan, words_of}
 
 -- each broker's subscribers: a count, then a number and a filter for each

@@ -1,5 +1,5 @@
 -- The network: brokers in a tree, what they have learned of each other's filters, what is under way between them, and what each command does.
-use Rattle.std.specs.Prelude.{◌≡◌, ℕ, zero, suc, ◌≤◌, Bool, false, cond, not, ◌&&◌, ◌||◌, List, [], ◌∷◌, ◌++◌, length, ◌==◌, nat_le}
+use Rattle.std.specs.Prelude.{◌≡◌, ℕ, zero, suc, ◌≤◌, Bool, cond, not, ◌&&◌, ◌||◌, List, [], ◌∷◌, ◌++◌, length, ◌==◌, nat_le}
 use Rattle.filter.specs.Filter.{Filter, Notice, matches}
 use Rattle.cover.specs.Maximal.{put, without, maximal, any_matches, minus}
 pub use Rattle.broker.specs.Subscribers.{Subscriber}

@@ -1,10 +1,9 @@
 -- What is read of a network's memory.
-use Rattle.std.proofs.Common.{◌≡◌, ℕ, ◌+◌, ◌-◌, ◌<◌, ◌≤◌, List, length, get_or, take, drop, sym, refl, ap, ◌∙◌, subst, arith}
+use Rattle.std.proofs.Common.{◌≡◌, ℕ, ◌+◌, ◌<◌, List, get_or, sym, refl, subst, arith}
 use Rattle.std.specs.List.{between}
 use Rattle.std.proofs.lemmas.List.{places}
-use Rattle.model.specs.Model.{Network}
 use Rattle.layout.specs.Plan.{many_of, size_of, start_of}
-use Rattle.layout.specs.Parts.{plan_of, deliveries_part}
+use Rattle.layout.specs.Parts.{plan_of}
 use Rattle.layout.specs.Logs.{Delivers}
 use Rattle.layout.specs.State.{network_of, Formed}
 use Rattle.layout.specs.declared.opening.Opening.{Opening}

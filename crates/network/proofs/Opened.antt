@@ -1,5 +1,5 @@
 -- A cleared memory holds the empty network.
-use Rattle.std.proofs.Common.{◌≡◌, ℕ, ◌≤◌, List, length, replicate, sym, refl, ap, ◌∙◌, subst}
+use Rattle.std.proofs.Common.{◌≡◌, ℕ, ◌≤◌, List, length, replicate, sym, subst}
 use mathlib.Core.Logic.{∥∥₁_elim}
 use Rattle.model.specs.Model.{empty}
 use Rattle.model.specs.Invariant.{Invariant}

@@ -1,9 +1,9 @@
 -- Commands played one after the other.
-use Rattle.std.proofs.Common.{◌≡◌, ℕ, ◌+◌, ◌<◌, ◌≤◌, List, [], ◌∷◌, length, get_or, drop, Some, None, Ok, Err, Option, Result, sym, refl, ap, ◌∙◌, arith}
+use Rattle.std.proofs.Common.{◌≡◌, ℕ, ◌+◌, ◌<◌, ◌≤◌, List, length, get_or, drop, Ok, Err, Result, sym, ap, ◌∙◌, arith}
 use Rattle.std.proofs.lemmas.List.{drop_more, drop_all}
-use Rattle.model.specs.Model.{Network, empty}
+use Rattle.model.specs.Model.{empty}
 use Rattle.layout.specs.State.{network_of}
-use Rattle.steps.specs.Rules.{command_of, refusal_of, after, answer_to}
+use Rattle.steps.specs.Rules.{command_of, refusal_of, answer_to}
 use Rattle.steps.specs.Sound.{Sound, Performed}
 use Rattle.network.specs.Promised.{played, kept_if, done, KeptPromises}
 use Rattle.layout.specs.declared.opening.Opening.{Opening}

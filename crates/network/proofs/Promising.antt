@@ -1,17 +1,14 @@
 -- The promises from the network that is in memory on.
-use Rattle.std.proofs.Common.{◌≡◌, ℕ, ◌+◌, ◌-◌, ◌*◌, ◌%◌, ◌≤◌, Bool, true, false, cond, not, ◌&&◌, ◌||◌, eqb, leb, List, [], ◌∷◌, map, length, take, Some, None, Decides, Option, sym, refl, ap, ◌∙◌, subst, arith}
+use Rattle.std.proofs.Common.{◌≡◌, ℕ, ◌*◌, ◌≤◌, Bool, true, false, not, ◌&&◌, ◌||◌, eqb, leb, List, [], ◌∷◌, map, length, take, Some, None, Option, sym, refl, ap, ◌∙◌, subst, arith}
 use Rattle.std.specs.List.{AllByRecursion as All}
 use Rattle.std.proofs.lemmas.Bool.{and_parts, and_from, not-true, leb-true}
 use Rattle.filter.specs.declared.value.Notice as P
-use Rattle.filter.specs.Filter.{Filter, Notice, matches, covers, same}
+use Rattle.filter.specs.Filter.{Filter, Notice, covers, same}
 use Rattle.filter.proofs.Laws.{covers_refl, same_eq}
-use Rattle.cover.specs.Maximal.{maximal}
 use Rattle.broker.specs.Subscribers.{Subscriber}
-use Rattle.model.specs.Tree.{Tree, neighbours, has, edge, hangs}
-use Rattle.model.specs.Model.{Network, post, allowed, step, end, end_if, empty, Quiet}
-use Rattle.model.specs.Model as model
+use Rattle.model.specs.Tree.{has}
+use Rattle.model.specs.Model.{Network, post, allowed, step, end, empty, Quiet}
 use Rattle.model.specs.Promise.{KnownToAll, subscribed, is_leave, stays, times, accepted, is_quiet}
-use Rattle.model.specs.Invariant.{Right, Invariant}
 use Rattle.model.proofs.Tree.{neighbours_edge}
 use Rattle.model.proofs.Decide.{tested}
 use Rattle.model.proofs.Turns.{refusals}
@@ -19,9 +16,8 @@ use Rattle.model.proofs.Quiet.{quiet_tables}
 use Rattle.model.proofs.Stays.{stays_known_to_all, quiet_known}
 use Rattle.model.proofs.Kept.{third_once, third_never, second, third}
 use Rattle.layout.specs.Parts.{tree}
-use Rattle.layout.specs.State.{network_of, Encodes}
-use Rattle.routing.specs.Rooms.{first, when, no_room_to_pass, no_room_to_deliver}
-use Rattle.steps.specs.Rules.{command_of, too_large, refusal_of, outcome, after}
+use Rattle.layout.specs.State.{network_of}
+use Rattle.steps.specs.Rules.{command_of, refusal_of, outcome, after}
 use Rattle.steps.specs.Sound.{Sound}
 use Rattle.network.specs.Promised.{Promised, Quietness, played, kept_if, done, KeptPromises}
 use Rattle.layout.specs.declared.opening.Opening.{Opening}

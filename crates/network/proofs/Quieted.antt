@@ -1,14 +1,14 @@
 -- Nothing is under way just if nothing is on any channel between a broker and the one that it hangs on.
-use Rattle.std.proofs.Common.{◌≡◌, ℕ, ◌+◌, ◌<◌, ◌≤◌, Bool, true, false, ◌⊎◌, List, [], ◌∷◌, length, get_or, sym, refl, ap, ◌∙◌, inl, inr, arith, below_more}
+use Rattle.std.proofs.Common.{◌≡◌, ℕ, ◌+◌, ◌<◌, Bool, true, false, ◌⊎◌, List, [], ◌∷◌, length, get_or, sym, refl, ap, ◌∙◌, inl, inr, arith}
 use Rattle.std.proofs.lemmas.Bool.{cases_order}
 use Rattle.model.specs.Tree.{edge}
-use Rattle.model.specs.Model.{Message, Network, Quiet}
+use Rattle.model.specs.Model.{Network, Quiet}
 use Rattle.model.specs.Promise.{is_quiet}
 use Rattle.model.proofs.Decide.{tested}
 use Rattle.layout.specs.Parts.{tree}
 use Rattle.layout.specs.State.{network_of, Formed}
 use Rattle.layout.specs.declared.opening.Opening.{Opening}
-use Rattle.steps.proofs.Hanging.{edge_parts, hung_beside}
+use Rattle.steps.proofs.Hanging.{edge_parts}
 use Rattle.layout.proofs.Written.{tree_length, edge_brokers}
 
 -- nothing is under way between a broker and the one that it hangs on

@@ -1,10 +1,10 @@
 // Plays a script: reads it from a file or from standard input, and prints the refusal of a bad opening, or what the script holds.
 #![tactic(auto)]
 
-use anyhow::anyhow;
 use layout::{Command, Rooms};
 use script::{Fault, Reader, Unopened};
 use std::io::Read;
+use std::process::ExitCode;
 use std::{env, fs};
 
 const USAGE: &str = "usage: play [SCRIPT]
@@ -36,7 +36,7 @@ impl Tally {
     }
 }
 
-fn print(rt: &HostRuntime, tally: Tally) -> anyhow::Result<()> {
+fn print(rt: &HostRuntime, tally: Tally) -> anyhow::Result<ExitCode> {
     let Tally {
         joins,
         leaves,
@@ -44,26 +44,26 @@ fn print(rt: &HostRuntime, tally: Tally) -> anyhow::Result<()> {
         carries,
     } = tally;
     println!(rt; "{joins} join, {leaves} leave, {posts} post, {carries} carry")?;
-    Ok(())
+    Ok(ExitCode::SUCCESS)
 }
 
-fn faulty(rt: &HostRuntime, fault: Fault) -> anyhow::Result<()> {
+fn faulty(rt: &HostRuntime, fault: Fault) -> anyhow::Result<ExitCode> {
     eprintln!(rt; "play: {fault}")?;
-    Err(anyhow!("not a whole script"))
+    Ok(ExitCode::FAILURE)
 }
 
 // A refused opening has been played to its end, and a script without a whole opening is faulty.
-fn unopened(rt: &HostRuntime, why: Unopened) -> anyhow::Result<()> {
+fn unopened(rt: &HostRuntime, why: Unopened) -> anyhow::Result<ExitCode> {
     match why {
         Unopened::Refused(refusal) => {
             println!(rt; "{refusal}")?;
-            Ok(())
+            Ok(ExitCode::SUCCESS)
         }
         Unopened::Faulty(fault) => faulty(rt, fault),
     }
 }
 
-fn play(rt: &HostRuntime, script: &[u8]) -> anyhow::Result<()> {
+fn play(rt: &HostRuntime, script: &[u8]) -> anyhow::Result<ExitCode> {
     let mut reader = Reader::new(script);
     let opening = match reader.opening(ROOMS) {
         Ok(opening) => opening,
@@ -88,22 +88,22 @@ fn play(rt: &HostRuntime, script: &[u8]) -> anyhow::Result<()> {
     print(rt, tally)
 }
 
-fn read(rt: &HostRuntime, path: &str) -> anyhow::Result<Vec<u8>> {
+fn play_file(rt: &HostRuntime, path: &str) -> anyhow::Result<ExitCode> {
     match fs::read(rt, path) {
-        Ok(script) => Ok(script),
+        Ok(script) => play(rt, &script),
         Err(error) => {
             eprintln!(rt; "play: cannot read {path}: {error}")?;
-            Err(error.into())
+            Ok(ExitCode::FAILURE)
         }
     }
 }
 
-fn misused(rt: &HostRuntime) -> anyhow::Result<()> {
+fn misused(rt: &HostRuntime) -> anyhow::Result<ExitCode> {
     eprintln!(rt; "{USAGE}")?;
-    Err(anyhow!("unknown arguments"))
+    Ok(ExitCode::FAILURE)
 }
 
-fn main(rt: HostRuntime) -> anyhow::Result<()> {
+fn main(rt: HostRuntime) -> anyhow::Result<ExitCode> {
     let heap = rt.alloc();
     let mut args = env::args(&rt)?;
     let _program = args.next();
@@ -117,13 +117,12 @@ fn main(rt: HostRuntime) -> anyhow::Result<()> {
             let word = word.as_str();
             if word == "--help" {
                 println!(rt; "{USAGE}")?;
-                return Ok(());
+                return Ok(ExitCode::SUCCESS);
             }
             if word.starts_with("--") {
                 return misused(&rt);
             }
-            let script = read(&rt, word)?;
-            play(&rt, &script)
+            play_file(&rt, word)
         }
         (Some(_), Some(_)) => misused(&rt),
     }

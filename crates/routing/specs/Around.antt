@@ -1,6 +1,6 @@
 -- A broker with those beside it, and when it is ready to tell them what it has to announce.
 use Rattle.std.specs.Prelude.{◌≡◌, ℕ, suc, ◌*◌, ◌<◌, ◌≤◌, true, List, map, length, take}
-use Rattle.model.specs.Tree.{Tree, neighbours, edge}
+use Rattle.model.specs.Tree.{neighbours, edge}
 use Rattle.model.specs.Model.{Network}
 use Rattle.model.specs.Promise.{brokers_behind}
 use Rattle.layout.specs.Links.{link}

@@ -1,5 +1,5 @@
 -- Where a notice goes from a broker.
-use Rattle.std.specs.Prelude.{◌≡◌, ℕ, ◌≤◌, List, length, take, slice_index}
+use Rattle.std.specs.Prelude.{◌≡◌, ℕ, ◌≤◌, length, take, slice_index}
 use Rattle.filter.specs.Filter.{Notice}
 use Rattle.broker.specs.Subscribers.{reached}
 use Rattle.broker.specs.Forwarding.{wanting}

@@ -1,5 +1,5 @@
 -- Numbers of four bytes, one after the other.
-use Rattle.std.proofs.Common.{◌≡◌, ℕ, zero, suc, ◌+◌, ◌-◌, ◌*◌, ◌/◌, ◌%◌, ◌^◌, ◌<◌, ◌≤◌, true, ◌&&◌, List, [], ◌∷◌, ◌++◌, length, get_or, take, drop, set, sym, refl, ap, ◌∙◌, arith, ltb-true}
+use Rattle.std.proofs.Common.{◌≡◌, ℕ, zero, suc, ◌+◌, ◌*◌, ◌/◌, ◌%◌, ◌<◌, ◌≤◌, true, List, [], ◌∷◌, ◌++◌, length, get_or, take, drop, set, refl, ap, arith, ltb-true}
 use lib.Arith.{digits_div, digits_mod}
 use lib.Seq.{paste}
 use Rattle.std.proofs.lemmas.List.{get_or-append-add, drop_more, take_more, take_all, flat_map_more, length-append}

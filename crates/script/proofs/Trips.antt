@@ -1,7 +1,7 @@
 -- Reading and writing undo each other.
-use Rattle.std.proofs.Common.{◌≡◌, ℕ, zero, suc, ◌+◌, ◌-◌, ◌*◌, ◌^◌, ◌<◌, ◌≤◌, Bool, true, false, cond, ◌&&◌, eqb, ltb, leb, List, [], ◌∷◌, ◌++◌, length, get_or, take, drop, replicate, Some, None, Option, sym, refl, ap, ◌∙◌, arith, lit<}
-use Rattle.std.specs.List.{flat_map, between}
-use Rattle.std.proofs.lemmas.List.{append_assoc, get_or-append-add, get_or_at, length-append, length-take-le, take_at, drop_more}
+use Rattle.std.proofs.Common.{◌≡◌, ℕ, suc, ◌+◌, ◌-◌, ◌*◌, ◌<◌, ◌≤◌, Bool, true, false, cond, ◌&&◌, ltb, leb, List, [], ◌∷◌, ◌++◌, length, get_or, take, drop, Some, None, Option, sym, refl, ap, ◌∙◌, arith}
+use Rattle.std.specs.List.{flat_map}
+use Rattle.std.proofs.lemmas.List.{get_or-append-add, get_or_at, length-append, length-take-le, take_at, drop_more}
 use Rattle.std.proofs.lemmas.Bool.{and_parts}
 use Rattle.std.proofs.lemmas.Bool.Decides.{nat_tests}
 use Rattle.filter.specs.Filter.{padded}
@@ -11,7 +11,7 @@ use Rattle.filter.specs.declared.value.Notice.{Notice}
 use Rattle.layout.specs.declared.command.Command.{Command}
 use Rattle.layout.specs.declared.command.Command.TheVariants.{Join, Leave, Post, Carry}
 use Rattle.script.specs.declared.fault.Fault.TheVariants.{Cut}
-use Rattle.script.specs.Script.{number_at, numbers_at, size, part_at, command_at, reading, reading_kind, kind_of, Reading, found, ended, faulty}
+use Rattle.script.specs.Script.{number_at, numbers_at, size, part_at, command_at, reading, reading_kind, kind_of, found, ended, faulty}
 use Rattle.script.specs.Writing.{four_bytes, written, small, all_small, fits, Clean, Bytes, ReadsWhatWasWritten, WritesWhatWasRead}
 use Rattle.script.specs.declared.kind.Kind.{Kind}
 use Rattle.script.specs.declared.kind.Kind.TheVariants as kinds

@@ -1,5 +1,5 @@
 -- What the answer of a step of a command says of the test that it was made by.
-use Rattle.std.proofs.Common.{◌≡◌, ℕ, ◌-◌, Bool, true, false, cond, List, ◌∷◌, take, Some, None, Ok, Err, Option, Result, sym, refl, ap, ◌∙◌, arith}
+use Rattle.std.proofs.Common.{◌≡◌, ℕ, ◌-◌, Bool, true, false, cond, List, ◌∷◌, take, Ok, Err, Option, Result, sym, refl, ap, ◌∙◌, arith}
 use Rattle.steps.specs.Rules.{too_large}
 use Rattle.layout.specs.declared.refusal.Refusal.{Refusal}
 

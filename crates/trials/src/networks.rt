@@ -1,8 +1,7 @@
 // A network on examples: the worked example played, and what is under way and learned after each of its commands.
 use channel::Message;
 use filter::{Filter, Notice};
-use layout::{Opening, Rooms};
-use network::network::Network;
+use network::{Network, Opening, Rooms};
 use std::alloc::Global;
 use std::fmt::Write;
 use std::process::Abort;

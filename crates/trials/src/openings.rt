@@ -1,6 +1,6 @@
 // Openings on examples: the bounds of each part, the order of the refusals, and the words that a network takes.
-use layout::links::link;
-use layout::{Opening, Refusal, Rooms};
+use network::links::link;
+use network::{Opening, Refusal, Rooms};
 use std::test::Fail;
 
 fn refused(

@@ -1,6 +1,6 @@
 // Scripts on examples: each command read and written, the ends that are missing, and an unknown byte.
 use filter::Filter;
-use layout::{Command, Opening, Rooms};
+use network::{Command, Opening, Rooms};
 use script::{Expected, Fault, Reader, Unopened, writer};
 use std::test::Fail;
 

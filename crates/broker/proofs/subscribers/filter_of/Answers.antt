@@ -1,5 +1,5 @@
-use Rattle.std.proofs.Common.{◌≡◌, get_or, Some, sym, ap, ◌∙◌, arith}
-use Rattle.broker.specs.Subscribers.{subscribers, known, ahead, filter_of}
+use Rattle.std.proofs.Common.{arith}
+use Rattle.broker.specs.Subscribers.{subscribers, known, ahead}
 use Rattle.broker.proofs.Slots.{found, not_found, filter_there}
 use Rattle.broker.proofs.subscribers.filter_of.Goals as goal
 

@@ -1,6 +1,5 @@
 use Rattle.std.proofs.Common.{◌*◌, ◌++◌, take, ap, ◌∙◌, arith}
 use Rattle.std.proofs.lemmas.List.{take_rest, drop-drop}
-use Rattle.cover.specs.Maximal.{minus}
 use Rattle.cover.proofs.Mail.{written_to_end}
 use Rattle.cover.proofs.telling.write_missing.Goals as goal
 

@@ -1,4 +1,4 @@
-use Rattle.std.proofs.Common.{◌≡◌, ◌∙◌, arith}
+use Rattle.std.proofs.Common.{◌≡◌, arith}
 use Rattle.layout.proofs.Logged.{delivered_none, delivered_count, delivered_more, delivered_holds}
 use Rattle.layout.proofs.log.deliver.Goals as goal
 

@@ -1,4 +1,4 @@
-use Rattle.std.proofs.Common.{arith, rules}
+use Rattle.std.proofs.Common.{arith}
 use Rattle.layout.specs.declared.parts.Kind.TheVariants.{Subscribers, Arrived, Announced, Learned, Channel, Posted, Deliveries}
 use Rattle.layout.proofs.Spans.{before_few, first_is}
 use Rattle.layout.proofs.parts.first.Goals as goal

@@ -1,7 +1,4 @@
-use Rattle.std.proofs.Common.{◌≡◌, ◌+◌, length, get_or, sym, ap, ◌∙◌, arith}
-use Rattle.std.specs.List.{between}
-use Rattle.layout.specs.Plan.{many_of, size_of, start_of}
-use Rattle.layout.specs.Parts.{plan_of, deliveries_part}
+use Rattle.std.proofs.Common.{sym, ◌∙◌, arith}
 use Rattle.network.proofs.Asked.{deliveries_one, deliveries_size, deliveries_lent, first_word}
 use Rattle.layout.proofs.Logged.{delivers_count}
 use Rattle.network.proofs.asking.delivered.Goals as goal

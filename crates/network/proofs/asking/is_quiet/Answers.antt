@@ -1,6 +1,4 @@
-use Rattle.std.proofs.Common.{◌≡◌, true, length, get_or, sym, ap, ◌∙◌, arith}
-use Rattle.model.specs.Tree.{edge}
-use Rattle.layout.specs.Parts.{tree}
+use Rattle.std.proofs.Common.{length, sym, ap, ◌∙◌, arith}
 use Rattle.layout.specs.State.{network_of}
 use Rattle.steps.proofs.Hanging.{hung_beside}
 use Rattle.network.proofs.Quieted.{still_more, still_quiet, not_quiet}

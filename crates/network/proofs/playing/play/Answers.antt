@@ -1,4 +1,4 @@
-use Rattle.std.proofs.Common.{◌≡◌, ◌≤◌, length, replicate, sym, refl, ap, ◌∙◌, arith}
+use Rattle.std.proofs.Common.{◌≡◌, ◌≤◌, length, replicate, sym, ap, ◌∙◌, arith}
 use Rattle.layout.specs.Plan.{words_of}
 use Rattle.layout.specs.Parts.{plan_of}
 use Rattle.network.proofs.Opened.{opened_sound, opened_empty}

@@ -1,4 +1,4 @@
-use Rattle.std.proofs.Common.{◌≡◌, ℕ, ◌-◌, length, replicate, arith}
+use Rattle.std.proofs.Common.{◌≡◌, ℕ, ◌-◌, replicate, arith}
 use Rattle.std.proofs.lemmas.List.{length-take-le}
 use Rattle.filter.proofs.Padding.{padded_over}
 use Rattle.script.specs.Script.{numbers_at}

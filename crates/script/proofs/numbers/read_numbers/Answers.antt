@@ -1,4 +1,4 @@
-use Rattle.std.proofs.Common.{◌≡◌, ◌<◌, length, arith}
+use Rattle.std.proofs.Common.{◌≡◌, length, arith}
 use Rattle.std.proofs.lemmas.List.{take_more_set, take_all}
 use Rattle.script.proofs.Fours.{numbers_more}
 use Rattle.script.proofs.numbers.read_numbers.Goals as goal

@@ -1,7 +1,7 @@
-use Rattle.std.proofs.Common.{◌≡◌, ◌+◌, ◌-◌, ◌<◌, ◌≤◌, ◌++◌, length, drop, sym, ap, ◌∙◌, arith}
+use Rattle.std.proofs.Common.{◌≡◌, ◌-◌, ◌++◌, length, drop, sym, ap, ◌∙◌, arith}
 use Rattle.model.specs.Tree.{neighbours}
 use Rattle.std.proofs.lemmas.List.{drop-set-lt}
-use Rattle.layout.specs.Links.{tree_of, LinksOf}
+use Rattle.layout.specs.Links.{tree_of}
 use Rattle.layout.proofs.Channels.{links}
 use Rattle.layout.proofs.Besides.{told, front_few, told_none, told_first, told_push, told_skip, told_some, told_all}
 use Rattle.layout.proofs.opening.Opening.beside.Goals as goal

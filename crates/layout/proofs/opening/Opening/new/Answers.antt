@@ -1,4 +1,4 @@
-use Rattle.std.proofs.Common.{ℕ, ◌<◌, get_or, sym, ◌∙◌, subst, arith}
+use Rattle.std.proofs.Common.{sym, ◌∙◌, subst, arith}
 use Rattle.layout.specs.Opening.{HangsTogether}
 use Rattle.layout.proofs.Openings.{all_given, all_hung}
 use Rattle.layout.proofs.opening.Opening.new.Goals as goal

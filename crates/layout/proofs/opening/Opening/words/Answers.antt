@@ -1,4 +1,4 @@
-use Rattle.std.proofs.Common.{◌≡◌, ◌-◌, ◌*◌, ap, ◌∙◌}
+use Rattle.std.proofs.Common.{◌-◌, ◌*◌}
 use Rattle.layout.specs.Memory.{notices_words, deliveries_words}
 use Rattle.layout.specs.Plan.{words_of}
 use Rattle.layout.proofs.Frames.{words_together}
