@@ -1,7 +1,7 @@
 -- The words of a broker's subscribers: one more, one less, and what the part then holds.
 use Rattle.std.proofs.Common.{◌≡◌, ℕ, suc, ◌+◌, ◌-◌, ◌*◌, ◌<◌, ◌≤◌, false, List, [], ◌∷◌, ◌++◌, map, length, get_or, take, drop, set, replicate, sym, refl, ap, ◌∙◌, mul-le-mul_left, arith}
 use borrow.Rule.Slice.PartMut.{put_mid}
-use Rattle.std.specs.List.{remove, AllByRecursion as All}
+use Rattle.std.specs.List.{remove, AllByRecursion}
 use Rattle.std.proofs.lemmas.List.{append_assoc, map-append, take-map, drop-map, drop-drop, drop-set-lt, take_more_set, length-map, length_push, length-append, length-replicate}
 use Rattle.std.proofs.ByRecursion.{All-push}
 use Rattle.filter.specs.Filter.{Filter}
@@ -75,7 +75,7 @@ left_none m n ws h k =
     let b = held_back m ws h in
     rw (d, b) (sym (stored_same (1 + 2 * m) ws (omega arith)))
 
-wide_rows_of : (m : ℕ) (rs : List Subscriber) → All (λ s. length s.filter ≡ 2 * m) rs → Wide (1 + 2 * m) (map row_of rs)
+wide_rows_of : (m : ℕ) (rs : List Subscriber) → AllByRecursion (λ s. length s.filter ≡ 2 * m) rs → Wide (1 + 2 * m) (map row_of rs)
 unfolding among
 wide_rows_of m [] h = λ x a. absurd (grind arith)
 wide_rows_of m (r ∷ rs) h =
@@ -93,7 +93,7 @@ unfolding encode laid
 count_held room m rs ws h = ap (λ v. get_or v 0 0) h.words ∙ length-map rs row_of
 
 -- other subscribers in place of those that a part holds
-pub with_held : (room m : ℕ) (rs ss : List Subscriber) (ws : List ℕ) → Holds room m rs ws → All (λ s. length s.filter ≡ 2 * m) ss → length ss ≤ room →
+pub with_held : (room m : ℕ) (rs ss : List Subscriber) (ws : List ℕ) → Holds room m rs ws → AllByRecursion (λ s. length s.filter ≡ 2 * m) ss → length ss ≤ room →
     (new : List ℕ) → new ≡ with_subscribers m ss ws → Holds room m ss new
 unfolding with_subscribers encode
 with_held room m rs ss ws h wide fits new e =

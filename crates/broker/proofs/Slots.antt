@@ -1,6 +1,6 @@
 -- The subscribers of a part, one slot after the other.
 use Rattle.std.proofs.Common.{◌≡◌, ℕ, suc, ◌+◌, ◌*◌, ◌<◌, ◌≤◌, Bool, true, false, cond, ◌||◌, eqb, ltb, List, [], ◌∷◌, ◌++◌, length, get_or, take, drop, set, Some, None, sym, refl, ap, ◌∙◌, mul-le-mul_left, mul-suc, arith}
-use Rattle.std.specs.List.{remove, AllByRecursion as All}
+use Rattle.std.specs.List.{remove, AllByRecursion}
 use Rattle.std.proofs.lemmas.List.{drop-drop, drop_all, drop-map, drop_more, length-map, length_push, take_more}
 use Rattle.std.proofs.lemmas.Bool.Decides.{nat_tests}
 use Rattle.filter.specs.Filter.{Notice, matches}
@@ -72,12 +72,12 @@ length_dropped n (r ∷ rs) =
     let p = length_dropped n rs in
     grind arith
 
-pub all_dropped : (P : Subscriber → Type 0) (n : ℕ) (rs : List Subscriber) → All P rs → All P (dropped n rs)
+pub all_dropped : (P : Subscriber → Type 0) (n : ℕ) (rs : List Subscriber) → AllByRecursion P rs → AllByRecursion P (dropped n rs)
 unfolding dropped
 all_dropped P n [] h = tt
 all_dropped P n (r ∷ rs) h = go (eqb r.number n) (all_dropped P n rs h.1)
   where
-    go : (t : Bool) → All P (dropped n rs) → All P (cond t rs (r ∷ dropped n rs))
+    go : (t : Bool) → AllByRecursion P (dropped n rs) → AllByRecursion P (cond t rs (r ∷ dropped n rs))
     go true p = h.1
     go false p = (h.0, p)
 

@@ -1,6 +1,6 @@
 -- A broker's subscribers, and their part of the memory: a count, then `room` slots of a number and a filter; unused words are zero.
 use Rattle.std.specs.Prelude.{◌≡◌, ℕ, suc, ◌+◌, ◌*◌, ◌≤◌, Bool, false, cond, ◌||◌, List, [], ◌∷◌, map, length, take, drop, ◌==◌, slice_index}
-use Rattle.std.specs.List.{AllByRecursion as All}
+use Rattle.std.specs.List.{AllByRecursion}
 use Rattle.filter.specs.Filter.{Filter, Notice, matches}
 use Rattle.cover.specs.Table.{held, stored, laid}
 
@@ -34,7 +34,7 @@ encode room m rs = laid (1 + 2 * m) (1 + (1 + 2 * m) * room) (map row_of rs)
 -- a part holds these subscribers
 pub record Holds (room m : ℕ) (rs : List Subscriber) (ws : List ℕ) : Type 0 where
   pub words : ws ≡ encode room m rs
-  pub wide : All (λ s. length s.filter ≡ 2 * m) rs
+  pub wide : AllByRecursion (λ s. length s.filter ≡ 2 * m) rs
   pub fits : length rs ≤ room
 
 -- the slots that are in use lie within the words

@@ -1,7 +1,7 @@
 -- A channel in words: where its ring begins, a count, then `room` slots of `width` words, one for each message; unused words are zero.
 use Rattle.std.specs.Prelude.{◌≡◌, ℕ, ◌+◌, ◌-◌, ◌*◌, ◌<◌, ◌≤◌, cond, List, [], ◌∷◌, ◌++◌, length, take, drop, replicate, ◌==◌, nat_lt, slice_index, slice_set}
 use borrow.Rule.Slice.PartMut.{put_mid}
-use Rattle.std.specs.List.{AllByRecursion as All}
+use Rattle.std.specs.List.{AllByRecursion}
 use Rattle.cover.specs.Table.{written}
 
 -- the words of a message
@@ -10,7 +10,7 @@ Row = List ℕ
 
 -- each row has this many words
 abbrev pub Wide : ℕ → List Row → Type 0
-Wide width xs = All (λ x. length x ≡ width) xs
+Wide width xs = AllByRecursion (λ x. length x ≡ width) xs
 
 -- a list turned: what stands from place k on comes first
 abbrev pub turned : {X : Type 0} → ℕ → List X → List X

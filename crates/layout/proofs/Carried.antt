@@ -1,6 +1,6 @@
 -- The messages that a channel's words carry.
 use Rattle.std.proofs.Common.{◌≡◌, ℕ, ◌+◌, ◌*◌, ◌<◌, List, [], ◌∷◌, ◌++◌, map, length, get_or, take, drop, replicate, sym, refl, ap, ◌∙◌, subst, arith}
-use Rattle.std.specs.List.{AllByRecursion as All}
+use Rattle.std.specs.List.{AllByRecursion}
 use Rattle.std.proofs.lemmas.List.{places, same_lists, get_or_default, get_or-take, length-take-le, drop-drop, length-map, map-append, take_at}
 use Rattle.std.proofs.ByRecursion.{All-append}
 use Rattle.std.proofs.lemmas.Bool.Decides.{nat_tests}
@@ -54,7 +54,7 @@ row_back m (add f) h = refl
 row_back m (cut f) h = refl
 row_back m (notice k e) h = ap (notice k) (take_at e (replicate m 0) m h)
 
-rows_back : (m : ℕ) (ms : List Message) → All (Sized m) ms → map (message_in m) (map (row_for m) ms) ≡ ms
+rows_back : (m : ℕ) (ms : List Message) → AllByRecursion (Sized m) ms → map (message_in m) (map (row_for m) ms) ≡ ms
 rows_back m [] h = refl
 rows_back m (x ∷ ms) h = λ i. row_back m x h.0 i ∷ rows_back m ms h.1 i
 
@@ -73,14 +73,14 @@ module _ (room m : ℕ) (ms : List Message) (ws : List ℕ) (h : Carries room m 
   carries_count = count_held room (2 + 2 * m) (get_or ws 0 0) (map (row_for m) ms) ws h.rows ∙ length-map ms (row_for m)
 
 -- words that hold the rows of messages, wherever the ring begins
-carries_from : (room m b : ℕ) (ms : List Message) (ws : List ℕ) → Holds room (2 + 2 * m) b (map (row_for m) ms) ws → All (Sized m) ms → Carries room m ms ws
+carries_from : (room m b : ℕ) (ms : List Message) (ws : List ℕ) → Holds room (2 + 2 * m) b (map (row_for m) ms) ws → AllByRecursion (Sized m) ms → Carries room m ms ws
 carries_from room m b ms ws h s =
     record { rows = subst (λ c. Holds room (2 + 2 * m) c (map (row_for m) ms) ws) (sym (begins room (2 + 2 * m) b (map (row_for m) ms) ws h)) h; sized = s }
 
 pub carries_none : (room m : ℕ) → 0 < room → Carries room m [] (replicate (2 + (2 + 2 * m) * room) 0)
 carries_none room m h = carries_from room m 0 [] (replicate (2 + (2 + 2 * m) * room) 0) (cleared_holds room (2 + 2 * m) h) tt
 
-pub carries_more : (room m : ℕ) (ms ns : List Message) (ws ws' : List ℕ) → Carries room m ms ws → All (Sized m) ns →
+pub carries_more : (room m : ℕ) (ms ns : List Message) (ws ws' : List ℕ) → Carries room m ms ws → AllByRecursion (Sized m) ns →
     Holds room (2 + 2 * m) (get_or ws 0 0) (map (row_for m) ms ++ map (row_for m) ns) ws' → Carries room m (ms ++ ns) ws'
 carries_more room m ms ns ws ws' c s h =
     carries_from room m (get_or ws 0 0) (ms ++ ns) ws' (rw map-append h) (All-append (Sized m) ms ns c.sized s)

@@ -5,7 +5,7 @@ use mathlib.Core.HLevel.{Π_prop, →_prop, ×_prop, ×₃_prop}
 use mathlib.Core.List.{is_set}
 use native.Mathlib.Nat.{ℕ_set}
 use native.Mathlib.Bridge.{le_prop}
-use Rattle.std.specs.List.{AllByRecursion as All}
+use Rattle.std.specs.List.{AllByRecursion}
 use Rattle.std.proofs.lemmas.List.{take-replicate, drop-replicate}
 use Rattle.std.proofs.lemmas.Bool.{ltb-true}
 use Rattle.broker.specs.Subscribers.{Subscriber, Holds}
@@ -77,7 +77,7 @@ cleared_encodes o memory w z =
       no_link = λ a b g. (refl, refl, refl);
     }
 
-all_prop : {A : Type 0} (P : A → Type 0) → ((x : A) → IsProp (P x)) → (xs : List A) → IsProp (All P xs)
+all_prop : {A : Type 0} (P : A → Type 0) → ((x : A) → IsProp (P x)) → (xs : List A) → IsProp (AllByRecursion P xs)
 all_prop P f [] p q = refl
 all_prop P f (x ∷ xs) p q = λ i. (f x p.0 q.0 i, all_prop P f xs p.1 q.1 i)
 

@@ -1,6 +1,6 @@
 -- The messages of the model in the words of a channel.
 use Rattle.std.specs.Prelude.{◌≡◌, ℕ, ◌+◌, ◌*◌, cond, List, [], ◌∷◌, ◌++◌, map, length, take, drop, replicate, ◌==◌, slice_index, slice_index_or}
-use Rattle.std.specs.List.{AllByRecursion as All}
+use Rattle.std.specs.List.{AllByRecursion}
 use Rattle.cover.specs.Table.{rows}
 use Rattle.channel.specs.Ring.{Row, Holds, turned}
 use Rattle.filter.specs.Filter.{Filter}
@@ -31,7 +31,7 @@ under_way room m ws = map (message_in m) (take (slice_index ws 1) (turned (slice
 -- a channel carries these messages
 pub record Carries (room m : ℕ) (ms : List Message) (ws : List ℕ) : Type 0 where
   pub rows : Holds room (2 + 2 * m) (slice_index ws 0) (map (row_for m) ms) ws
-  pub sized : All (Sized m) ms
+  pub sized : AllByRecursion (Sized m) ms
 
 -- the messages that tell of filters that are new, or no more
 abbrev pub telling : Change → List Filter → List Message

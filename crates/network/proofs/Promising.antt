@@ -1,6 +1,6 @@
 -- The promises from the network that is in memory on.
 use Rattle.std.proofs.Common.{◌≡◌, ℕ, ◌*◌, ◌≤◌, Bool, true, false, not, ◌&&◌, ◌||◌, eqb, leb, List, [], ◌∷◌, map, length, take, Some, None, Option, sym, refl, ap, ◌∙◌, subst, arith}
-use Rattle.std.specs.List.{AllByRecursion as All}
+use Rattle.std.specs.List.{AllByRecursion}
 use Rattle.std.proofs.lemmas.Bool.{and_parts, and_from, not-true, leb-true}
 use Rattle.filter.specs.declared.value.Notice as P
 use Rattle.filter.specs.Filter.{Filter, Notice, covers, same}
@@ -28,7 +28,7 @@ use Rattle.layout.proofs.Written.{tree_length, tree_hung}
 use Rattle.steps.proofs.Ruled.{unrefused}
 
 -- a subscriber of the list has what all of them have
-subscribed_all : (P : Filter → Type 0) (n : ℕ) (f : Filter) (rs : List Subscriber) → All (λ r. P r.filter) rs → subscribed n f rs ≡ true → P f
+subscribed_all : (P : Filter → Type 0) (n : ℕ) (f : Filter) (rs : List Subscriber) → AllByRecursion (λ r. P r.filter) rs → subscribed n f rs ≡ true → P f
 unfolding subscribed
 subscribed_all P n f [] a h =
     let z : ◌≡◌ {A = ℕ} 0 1 = cc in

@@ -1,6 +1,6 @@
 -- The subscriber with a number at a broker, and its filter, as they are read from the memory.
 use Rattle.std.proofs.Common.{◌≡◌, ℕ, ◌+◌, ◌-◌, ◌*◌, ◌<◌, Bool, true, false, cond, not, ◌||◌, eqb, ltb, List, [], ◌∷◌, length, take, Some, None, Decides, Result, sym, refl, ap, ◌∙◌, subst, arith, MatchResult}
-use Rattle.std.specs.List.{between, AllByRecursion as All}
+use Rattle.std.specs.List.{between, AllByRecursion}
 use Rattle.std.proofs.lemmas.Result.{MatchResult-weaker}
 use Rattle.filter.specs.Filter.{padded}
 use Rattle.filter.specs.declared.value.Filter.{Filter as Ranges}
@@ -21,7 +21,7 @@ use Rattle.steps.proofs.Oldest.{front_padded}
 use Rattle.steps.proofs.Options.{found, found_is, missed}
 
 -- the filter of one of these subscribers is as wide as all of theirs
-filter_wide : (w n : ℕ) (rs : List Subscriber) → All (λ r. length r.filter ≡ w) rs → known n rs ≡ true → length (filter_of n rs) ≡ w
+filter_wide : (w n : ℕ) (rs : List Subscriber) → AllByRecursion (λ r. length r.filter ≡ w) rs → known n rs ≡ true → length (filter_of n rs) ≡ w
 unfolding known filter_of
 filter_wide w n [] h k = let z : ◌≡◌ {A = ℕ} 0 1 = grind arith in absurd (omega arith)
 filter_wide w n (r ∷ rs) h k = go (eqb r.number n) k (filter_wide w n rs h.1)

@@ -1,6 +1,6 @@
 -- What a broker that is ready to tell has to announce to one beside it: there is room for it in a table, and all of it is as wide as a filter.
 use Rattle.std.proofs.Common.{◌≡◌, ℕ, suc, ◌+◌, ◌-◌, ◌*◌, ◌≤◌, true, List, [], ◌∷◌, ◌++◌, length, sym, refl, ◌∙◌, mul_comm, mul-le-mul_left, add-one, arith, length-append}
-use Rattle.std.specs.List.{AllByRecursion as All}
+use Rattle.std.specs.List.{AllByRecursion}
 use Rattle.filter.specs.Filter.{Filter}
 use Rattle.cover.specs.Maximal.{among}
 use Rattle.cover.specs.Table.{Wide}
@@ -23,7 +23,7 @@ use Rattle.routing.specs.declared.around.Around.{Around}
 use Rattle.layout.proofs.Written.{tree_length, tree_hung}
 
 -- the filters of subscribers each of whose filters has w words
-wide_filters : (w : ℕ) (rs : List Subscriber) → All (λ r. length r.filter ≡ w) rs → Wide w (filters_of rs)
+wide_filters : (w : ℕ) (rs : List Subscriber) → AllByRecursion (λ r. length r.filter ≡ w) rs → Wide w (filters_of rs)
 unfolding filters_of among
 wide_filters w [] h = λ x m. absurd (grind arith)
 wide_filters w (r ∷ rs) h = wide_cons w r.filter (filters_of rs) h.0 (wide_filters w rs h.1)

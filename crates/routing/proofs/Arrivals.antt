@@ -1,7 +1,7 @@
 -- A notice arrives at a broker: it is sent on to those who wish for it, one after the other, and it is written down to whom it was delivered.
 use Rattle.std.proofs.Common.{◌≡◌, ℕ, suc, ◌+◌, ◌-◌, ◌*◌, ◌<◌, ◌≤◌, Bool, true, false, cond, not, ◌&&◌, eqb, leb, List, [], ◌∷◌, ◌++◌, map, length, get_or, take, drop, replicate, Some, None, Option, sym, refl, ap, ◌∙◌, subst, arith}
 use borrow.Rule.Slice.PartMut.{put_mid}
-use Rattle.std.specs.List.{between, AllByRecursion as All}
+use Rattle.std.specs.List.{between, AllByRecursion}
 use Rattle.std.proofs.lemmas.List.{length-append, length-map, length-replicate, length-take-le, get_or-take, get_or-drop, take_all, take_more}
 use Rattle.std.proofs.lemmas.Bool.{and_parts, leb-true}
 use Rattle.filter.specs.Filter.{Notice, matches}
@@ -34,7 +34,7 @@ use Rattle.routing.proofs.Wanted.{passed_is, full_wanted}
 use Rattle.layout.proofs.Written.{lent, lent_part, tree_length, tree_hung, put_channel, put_arrived, put_posted, put_deliveries}
 
 -- what holds of each of a list holds of its last
-last_of : {A : Type 0} (P : A → Type 0) (xs : List A) (x : A) → All P (xs ++ x ∷ []) → P x
+last_of : {A : Type 0} (P : A → Type 0) (xs : List A) (x : A) → AllByRecursion P (xs ++ x ∷ []) → P x
 last_of P [] x h = h.0
 last_of P (y ∷ xs) x h = last_of P xs x h.1
 

@@ -1,7 +1,7 @@
 -- What is written to the part of a channel, or to the table of what was announced, where a broker tells one beside it.
 use Rattle.std.proofs.Common.{◌≡◌, ℕ, ◌+◌, ◌-◌, ◌*◌, ◌<◌, ◌≤◌, true, List, [], ◌∷◌, ◌++◌, map, length, get_or, refl, ap, arith}
 use borrow.Rule.Slice.PartMut.{put_mid}
-use Rattle.std.specs.List.{between, AllByRecursion as All}
+use Rattle.std.specs.List.{between, AllByRecursion}
 use Rattle.std.proofs.lemmas.List.{length-map}
 use Rattle.filter.specs.Filter.{Filter}
 use Rattle.cover.specs.Table.{Wide, rows}
@@ -48,7 +48,7 @@ told_rows Add m (f ∷ fs) = ap (λ xs. told Add f ∷ xs) (told_rows Add m fs)
 told_rows Cut m [] = refl
 told_rows Cut m (f ∷ fs) = ap (λ xs. told Cut f ∷ xs) (told_rows Cut m fs)
 
-sized_telling : (change : Change) (m : ℕ) (fs : List Filter) → Wide (2 * m) fs → All (Sized m) (telling change fs)
+sized_telling : (change : Change) (m : ℕ) (fs : List Filter) → Wide (2 * m) fs → AllByRecursion (Sized m) (telling change fs)
 unfolding adds cuts
 sized_telling Add m [] h = tt
 sized_telling Add m (f ∷ fs) h = (wide_head (2 * m) f fs h, sized_telling Add m fs (wide_tail (2 * m) f fs h))

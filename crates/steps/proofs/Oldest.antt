@@ -1,6 +1,6 @@
 -- The oldest message on a channel, as it is read from the words there.
 use Rattle.std.proofs.Common.{◌≡◌, ℕ, ◌+◌, ◌-◌, ◌*◌, ◌≤◌, cond, ltb, ◌⊎◌, List, [], ◌∷◌, ◌++◌, map, length, get_or, take, replicate, Some, None, sym, refl, ap, ◌∙◌, subst, inl, inr, arith}
-use Rattle.std.specs.List.{AllByRecursion as All}
+use Rattle.std.specs.List.{AllByRecursion}
 use Rattle.std.proofs.lemmas.List.{take-take, take_at, take_all}
 use Rattle.std.proofs.lemmas.Bool.{ltb-false}
 use Rattle.filter.specs.Filter.{padded}
@@ -58,13 +58,13 @@ module _ (room m : ℕ) (ms : List Message) (ws : List ℕ) (c : Carries room m 
   pub oldest_is : (ps : List Message) × (ms ≡ message_in m (words m x) ∷ ps)
   oldest_is =
       let (p, ps, e, i) = oldest_there m ms x asked in
-      let s = (subst (All (Sized m)) e c.sized).0 in
+      let s = (subst (AllByRecursion (Sized m)) e c.sized).0 in
       (ps, e ∙ ap (λ y. y ∷ ps) (sym (ap (λ y. message_in m (words m y)) i ∙ read_back m p few s)))
 
   pub oldest_notice : (n : ℕ) (v : Notice) → x ≡ Post n v → (ps : List Message) × (ms ≡ notice n (take m v.numbers) ∷ ps)
   oldest_notice n v is =
       let (p, ps, e, i) = oldest_there m ms x asked in
-      let s = (subst (All (Sized m)) e c.sized).0 in
+      let s = (subst (AllByRecursion (Sized m)) e c.sized).0 in
       (ps, e ∙ ap (λ y. y ∷ ps) (notice_read m p few s n v (sym is ∙ i)))
 
 -- an add and a cut are no notices

@@ -2,7 +2,7 @@
 use Rattle.std.proofs.Common.{◌≡◌, ℕ, suc, ◌+◌, ◌-◌, ◌*◌, ◌≤◌, Bool, true, false, cond, ◌&&◌, eqb, List, ◌∷◌, ◌++◌, length, get_or, None, Ok, sym, refl, ap, ◌∙◌, subst, mul_comm, mul-le-mul_left, add-one, arith}
 use mathlib.Core.Path.{fun_ext}
 use borrow.Rule.Slice.PartMut.{put_mid}
-use Rattle.std.specs.List.{between, AllByRecursion as All}
+use Rattle.std.specs.List.{between, AllByRecursion}
 use Rattle.std.proofs.lemmas.Bool.{and_parts, and_left, eqb-true, eqb-false, ne_eqb, leb-true, cond-false}
 use Rattle.filter.specs.Filter.{Filter}
 use Rattle.cover.specs.Sorted.{sorted}
@@ -93,7 +93,7 @@ module _ (o : Opening) (memory : List ℕ) (sound : Sound o memory) (a b : ℕ) 
 
   after_wide : Wide (2 * o.ranges) then
   after_wide =
-      wide_after o.ranges p ((network_of o memory).learned b a) (subst (All (Sized o.ranges)) oldest (sound.formed.channel a b e).sized).0
+      wide_after o.ranges p ((network_of o memory).learned b a) (subst (AllByRecursion (Sized o.ranges)) oldest (sound.formed.channel a b e).sized).0
       (sound.formed.learned a b e).wide
 
   -- the table is lent from `at` to `stop`
