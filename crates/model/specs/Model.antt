@@ -4,7 +4,6 @@ use Rattle.filter.specs.Filter.{Filter, Notice, matches}
 use Rattle.cover.specs.Maximal.{put, without, maximal, any_matches, minus}
 pub use Rattle.broker.specs.Subscribers.{Subscriber}
 unfoldable pub use Rattle.broker.specs.Subscribers.{filters_of, known, filter_of, dropped}
-unfoldable pub use Rattle.broker.specs.Announcing.{from_others}
 use Rattle.model.specs.Tree.{Tree, neighbours, has}
 
 -- what goes from broker to broker: a filter more, a filter less, a notice with its number
@@ -42,6 +41,11 @@ at1 f i a j = cond (j == i) a (f j)
 
 abbrev pub at2 : {A : Type 0} → (ℕ → ℕ → A) → ℕ → ℕ → A → ℕ → ℕ → A
 at2 f i j a k l = cond (k == i && l == j) a (f k l)
+
+-- what the tables of these brokers hold, but for the one of n
+unfoldable pub from_others : (ℕ → List Filter) → ℕ → List ℕ → List Filter
+from_others table n [] = []
+from_others table n (m ∷ ms) = cond (m == n) (from_others table n ms) (table m ++ from_others table n ms)
 
 -- what a broker has to announce to n beside it: the maximal filters of its own subscribers and of what it has learned from the others beside it
 unfoldable pub to_announce : List Subscriber → (ℕ → List Filter) → List ℕ → ℕ → List Filter

@@ -21,7 +21,7 @@ use Rattle.layout.specs.State.{network_of, Formed}
 use Rattle.routing.specs.Around.{Surrounds, Ready}
 use Rattle.layout.specs.declared.opening.Opening.{Opening}
 use Rattle.routing.specs.declared.around.Around.{Around}
-use Rattle.routing.proofs.Announced.{known_fits, announces_alike}
+use Rattle.routing.proofs.Announced.{known_fits, others_alike, announces_alike}
 use Rattle.layout.proofs.Frames.{part_within}
 use Rattle.routing.proofs.Surrounded.{neighbour_edge}
 use Rattle.layout.proofs.Written.{link_within_o}
@@ -108,7 +108,9 @@ module _ (o : Opening) (memory : List ℕ) (a : Around) (mem : Formed o memory) 
           1 + 2 * o.ranges * length (known_but (subscribers o.ranges own) (table_at o.ranges size memory places) ns n) ≤ size
       known_room ready e =
           let q = own_subscribers in
-          let k = others_all (table_at o.ranges size memory places) ((network_of o memory).learned a.broker) (neighbours (tree o) a.broker) n table_known in
+          let k =
+          others_all (table_at o.ranges size memory places) ((network_of o memory).learned a.broker) (neighbours (tree o) a.broker) n table_known
+          ∙ others_alike ((network_of o memory).learned a.broker) n (neighbours (tree o) a.broker) in
           let p = mul-le-mul_left (2 * o.ranges) (known_fits o memory a ready n e) in
           rw (mine, beside, q, k, sized) (omega arith)
 
