@@ -88,12 +88,13 @@ fn play(rt: &HostRuntime, script: &[u8]) -> anyhow::Result<ExitCode> {
     print(rt, tally)
 }
 
-fn play_file(rt: &HostRuntime, path: &str) -> anyhow::Result<ExitCode> {
+// The bytes of the file, or none where it cannot be read, once that was told.
+fn read(rt: &HostRuntime, path: &str) -> anyhow::Result<Option<Vec<u8>>> {
     match fs::read(rt, path) {
-        Ok(script) => play(rt, &script),
+        Ok(script) => Ok(Some(script)),
         Err(error) => {
             eprintln!(rt; "play: cannot read {path}: {error}")?;
-            Ok(ExitCode::FAILURE)
+            Ok(None)
         }
     }
 }
@@ -122,7 +123,10 @@ fn main(rt: HostRuntime) -> anyhow::Result<ExitCode> {
             if word.starts_with("--") {
                 return misused(&rt);
             }
-            play_file(&rt, word)
+            let Some(script) = read(&rt, word)? else {
+                return Ok(ExitCode::FAILURE);
+            };
+            play(&rt, &script)
         }
         (Some(_), Some(_)) => misused(&rt),
     }
