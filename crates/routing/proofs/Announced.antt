@@ -8,7 +8,7 @@ use Rattle.cover.specs.Table.{Wide}
 use Rattle.cover.proofs.Maximals.{length_maximal}
 use Rattle.cover.proofs.TableLaws.{wide_cons, wide_maximal}
 use Rattle.broker.specs.Subscribers.{Subscriber, filters_of}
-use Rattle.broker.specs.Announcing.{from_others as others_found, to_announce as announcement_found}
+use Rattle.broker.specs.Announcing.{from_others as broker_others, to_announce as broker_announces}
 use Rattle.broker.proofs.Gathered.{wide_append}
 use Rattle.model.specs.Tree.{edge, neighbours}
 use Rattle.model.specs.Model.{from_others, to_announce, announcement}
@@ -30,13 +30,13 @@ wide_filters w [] h = λ x m. absurd (grind arith)
 wide_filters w (r ∷ rs) h = wide_cons w r.filter (filters_of rs) h.0 (wide_filters w rs h.1)
 
 -- what the broker's functions find is what the network has to announce
-pub others_alike : (table : ℕ → List Filter) (n : ℕ) (ns : List ℕ) → others_found table n ns ≡ from_others table n ns
-unfolding others_found from_others
+pub others_alike : (table : ℕ → List Filter) (n : ℕ) (ns : List ℕ) → broker_others table n ns ≡ from_others table n ns
+unfolding broker_others from_others
 others_alike table n [] = refl
 others_alike table n (m ∷ ms) = ap (λ fs. cond (m == n) fs (table m ++ fs)) (others_alike table n ms)
 
-pub announces_alike : (own : List Subscriber) (table : ℕ → List Filter) (ns : List ℕ) (n : ℕ) → announcement_found own table ns n ≡ to_announce own table ns n
-unfolding announcement_found to_announce
+pub announces_alike : (own : List Subscriber) (table : ℕ → List Filter) (ns : List ℕ) (n : ℕ) → broker_announces own table ns n ≡ to_announce own table ns n
+unfolding broker_announces to_announce
 announces_alike own table ns n = ap (λ fs. maximal (filters_of own ++ fs)) (others_alike table n ns)
 
 module _ (o : Opening) (memory : List ℕ) (a : Around) (ready : Ready o memory a) (n : ℕ) (beside : edge (tree o) a.broker n ≡ true) where
