@@ -1,6 +1,10 @@
 -- The laws of covering, of matching and of the order of filters.
-use Rattle.std.proofs.Common.{◌≡◌, ◌%◌, Bool, true, false, not, ◌&&◌, ◌⊎◌, [], ◌∷◌, length, refl, inl, inr, arith}
+use Rattle.std.proofs.Common.{◌≡◌, ℕ, ◌%◌, ◌<◌, cond, ◌==◌, ap, nat_eq, nat_lt, Some, Ordering, Bool, true, false, not, ◌&&◌, ◌⊎◌, [], ◌∷◌, length, refl, inl, inr, arith}
 use Rattle.std.proofs.lemmas.Bool.Decides.{nat_tests}
+use Rattle.std.proofs.lemmas.Cmp.{ranked, same_from_slice_cmp_tested}
+use Rattle.std.specs.Cmp.Lexicographic.{pointwise, slice_partial_cmp}
+use Rattle.std.specs.Ordering.{MatchOrdering, is_lt, is_some_and, nat_cmp}
+use Rattle.std.specs.declared.cmp.Ordering.TheVariants.{Less, Equal, Greater}
 use Rattle.filter.specs.Laws.{OrderStrictTotal}
 use Rattle.filter.specs.Filter.{Filter, Notice, matches, covers, same, before}
 
@@ -152,3 +156,23 @@ order_strict_total = record { irreflexive = before_irrefl; transitive = before_t
         let r = before_total f g in
         let s = same_tells f g in
         grind arith
+
+-- the same numbers, as the library's equality of lists tells it
+pub same_is_equality : (f g : Filter) → same f g ≡ pointwise nat_eq f g
+unfolding same
+same_is_equality [] [] = refl
+same_is_equality [] (y ∷ ys) = refl
+same_is_equality (x ∷ xs) [] = refl
+same_is_equality (x ∷ xs) (y ∷ ys) = ap (λ b. x == y && b) (same_is_equality xs ys)
+
+-- the library's order of lists is the order of filters
+one : (x y : ℕ) (rest : Bool) (o : Ordering) → o ≡ nat_cmp x y →
+    MatchOrdering o (cond (nat_lt x y) true (x == y && rest) ≡ true) (cond (nat_lt x y) true (x == y && rest) ≡ rest) (cond (nat_lt x y) true (x == y && rest) ≡ false)
+one x y rest Less h = let p : x < y = ranked x y Less h in grind (arith, nat_tests)
+one x y rest Equal h = let p : x ≡ y = ranked x y Equal h in grind (arith, nat_tests)
+one x y rest Greater h = let p : y < x = ranked x y Greater h in grind (arith, nat_tests)
+
+pub before_is_less : (f g : Filter) (less : Bool) → less ≡ is_some_and is_lt (slice_partial_cmp (λ x y. Some (nat_cmp x y)) f g) → less ≡ before f g
+unfolding before
+before_is_less f g less =
+    same_from_slice_cmp_tested nat_cmp is_lt before refl (λ _ _. refl) (λ _ _. refl) (λ x y xs ys o h. one x y (before xs ys) o h) f g less

@@ -7,17 +7,15 @@ ghost use Rattle.filter.specs.Filter.{matches, covers, same, before};
 pub fn covers(outer: &[u64], inner: &[u64]) -> bool
     ensures { result ≡ covers outer.now inner.now }
 {
-    if outer.len() != inner.len() || outer.len() % 2 != 0 {
-        return false;
-    }
-    for k in 0..outer.len() / 2 {
-        let low = 2 * k;
-        let high = low + 1;
-        if outer[low] > inner[low] || outer[high] < inner[high] {
+    let (mut wide, mut narrow) = (outer, inner);
+    while let ([low, high, wider @ ..], [least, greatest, others @ ..]) = (wide, narrow) {
+        if low > least || high < greatest {
             return false;
         }
+        wide = wider;
+        narrow = others;
     }
-    true
+    wide.is_empty() && narrow.is_empty()
 }
 
 // Whether each number of the notice lies in the filter's range at its place. Numbers past the last range do not matter; a range without a number
@@ -25,43 +23,27 @@ pub fn covers(outer: &[u64], inner: &[u64]) -> bool
 pub fn matches(filter: &[u64], notice: &[u64]) -> bool
     ensures { result ≡ matches filter.now notice.now }
 {
-    if filter.len() % 2 != 0 || notice.len() < filter.len() / 2 {
-        return false;
-    }
-    for k in 0..filter.len() / 2 {
-        let low = 2 * k;
-        let high = low + 1;
-        if notice[k] < filter[low] || notice[k] > filter[high] {
+    let (mut ranges, mut numbers) = (filter, notice);
+    while let ([low, high, more @ ..], [number, others @ ..]) = (ranges, numbers) {
+        if number < low || number > high {
             return false;
         }
+        ranges = more;
+        numbers = others;
     }
-    true
+    ranges.is_empty()
 }
 
 // Whether the two rows have the same numbers.
 pub fn same(a: &[u64], b: &[u64]) -> bool
     ensures { result ≡ same a.now b.now }
 {
-    if a.len() != b.len() {
-        return false;
-    }
-    for i in 0..a.len() {
-        if a[i] != b[i] {
-            return false;
-        }
-    }
-    true
+    a == b
 }
 
 // Whether `a` comes before `b`: the first number in which they differ decides, and a row comes before the longer ones that it begins.
 pub fn before(a: &[u64], b: &[u64]) -> bool
     ensures { result ≡ before a.now b.now }
 {
-    let both = a.len().min(b.len());
-    for i in 0..both {
-        if a[i] != b[i] {
-            return a[i] < b[i];
-        }
-    }
-    a.len() < b.len()
+    a < b
 }

@@ -1,22 +1,31 @@
 // Filters and notices by value, for what enters and leaves the network. Each has room for eight ranges or numbers, and those that are not used
-// are zero; a range 0 to 0 takes the number 0, so no test needs to know how many are in use.
+// are zero; a range 0 to 0 takes the number 0, so no test needs to know how many are in use. They are equal if all their numbers are.
 ghost use Rattle.std.specs.Prelude.{◌≡◌};
 ghost use Rattle.filter.specs.Filter.{matches, covers, same, before, padded};
-ghost use Rattle.std.specs.Cmp.{partial_equiv_from_equiv};
-ghost use Rattle.filter.specs.Equal.{same_equiv};
 
 use crate::in_place;
 
 // The numbers of a notice.
-#[derive(Clone, Copy, Debug)]
+#[derive(Clone, Copy, PartialEq, Eq, Debug)]
 pub struct Notice {
     pub numbers: [u64; 8],
 }
 
-// A range for each number of a notice: the least and the greatest that it wants, one after the other.
-#[derive(Clone, Copy, Debug)]
+// A range for each number of a notice: the least and the greatest that it wants, one after the other. Filters are in order number by number.
+#[derive(Clone, Copy, PartialEq, Eq, PartialOrd, Ord, Debug)]
 pub struct Filter {
     pub bounds: [u64; 16],
+}
+
+// The first N of the numbers, with zeros for those that are lacking.
+fn padded<const N: usize>(numbers: &[u64]) -> [u64; N]
+    ensures { result ≡ padded N numbers.now }
+{
+    let mut all = [0; N];
+    let n = numbers.len().min(N);
+    let front = &mut all[..];
+    front[0..n].copy_from_slice(&numbers[0..n]);
+    all
 }
 
 impl Notice {
@@ -24,10 +33,9 @@ impl Notice {
     pub fn new(numbers: &[u64]) -> Notice
         ensures { result.numbers ≡ padded 8 numbers.now }
     {
-        let mut all = [0; 8];
-        let n = numbers.len().min(8);
-        all[0..n].copy_from_slice(&numbers[0..n]);
-        Notice { numbers: all }
+        Notice {
+            numbers: padded(numbers),
+        }
     }
 }
 
@@ -36,10 +44,9 @@ impl Filter {
     pub fn new(bounds: &[u64]) -> Filter
         ensures { result.bounds ≡ padded 16 bounds.now }
     {
-        let mut all = [0; 16];
-        let n = bounds.len().min(16);
-        all[0..n].copy_from_slice(&bounds[0..n]);
-        Filter { bounds: all }
+        Filter {
+            bounds: padded(bounds),
+        }
     }
 
     // Whether each of its ranges holds the other's at its place.
@@ -59,41 +66,13 @@ impl Filter {
     pub fn same(self, other: Filter) -> bool
         ensures { result ≡ same self.bounds other.bounds }
     {
-        in_place::same(&self.bounds, &other.bounds)
+        self == other
     }
 
     // Whether it comes before the other, number by number.
     pub fn before(self, other: Filter) -> bool
         ensures { result ≡ before self.bounds other.bounds }
     {
-        in_place::before(&self.bounds, &other.bounds)
+        self < other
     }
-}
-
-impl PartialEq for Notice {
-    ghost eq = { λ a b. same a.numbers b.numbers };
-
-    ghost laws = { partial_equiv_from_equiv (same_equiv (λ notice. notice.numbers)) };
-
-    fn eq(&self, other: &Notice) -> bool {
-        in_place::same(&self.numbers, &other.numbers)
-    }
-}
-
-impl PartialEq for Filter {
-    ghost eq = { λ a b. same a.bounds b.bounds };
-
-    ghost laws = { partial_equiv_from_equiv (same_equiv (λ filter. filter.bounds)) };
-
-    fn eq(&self, other: &Filter) -> bool {
-        self.same(*other)
-    }
-}
-
-impl Eq for Notice {
-    ghost laws = { same_equiv (λ notice. notice.numbers) };
-}
-
-impl Eq for Filter {
-    ghost laws = { same_equiv (λ filter. filter.bounds) };
 }

@@ -1,24 +1,25 @@
-use Rattle.std.proofs.Common.{◌*◌, arith}
+use Rattle.std.proofs.Common.{arith}
 use Rattle.std.proofs.lemmas.Bool.Decides.{nat_tests}
-use Rattle.filter.proofs.Passes.{covers_shape, covers_more, covers_all}
+use Rattle.filter.proofs.Passes.{covers_pair, covers_end}
+use Rattle.filter.proofs.in_place.covers.Goals.{then-low-least-via-then-low-least, then-low-least-via-else-low-least+then-high-greatest, in_default, in_default-2}
 use Rattle.filter.proofs.in_place.covers.Goals as goal
 
-pub returns-then-outer-inner : goal.returns-then-outer-inner
-returns-then-outer-inner c =
-    let p = covers_shape c.args.outer.now c.args.inner.now in
-    grind arith
+pub returns-then-low-least : goal.returns-then-low-least
+returns-then-low-least c =
+    let p = covers_pair c.loop-wide.wide.now c.loop-wide.narrow.now (grind (arith, nat_tests)) (grind (arith, nat_tests)) in
+    elim c.then-low-least.branch [ then-low-least-via-then-low-least w ↦ grind (arith, nat_tests) | then-low-least-via-else-low-least+then-high-greatest w ↦ grind (arith, nat_tests) ]
 
-pub returns-then-outer-low : goal.returns-then-outer-low
-returns-then-outer-low c =
-    let p = covers_more c.args.outer.now c.args.inner.now c.loop-k.k (omega arith) (omega arith) in
+pub loop-wide-preserved : goal.loop-wide-preserved
+loop-wide-preserved c =
+    let p = covers_pair c.loop-wide.wide.now c.loop-wide.narrow.now (grind (arith, nat_tests)) (grind (arith, nat_tests)) in
     grind (arith, nat_tests)
 
-pub loop-k-preserved : goal.loop-k-preserved
-loop-k-preserved c =
-    let p = covers_more c.args.outer.now c.args.inner.now c.loop-k.k (omega arith) (omega arith) in
+pub returns-then-is_empty : goal.returns-then-is_empty
+returns-then-is_empty c =
+    let p = covers_end c.loop-wide.wide.now c.loop-wide.narrow.now (grind arith) in
     grind (arith, nat_tests)
 
-pub returns : goal.returns
-returns c =
-    let p = covers_all c.args.outer.now c.args.inner.now (2 * c.loop-k.k) (omega arith) (omega arith) in
-    cc
+pub returns-else-is_empty : goal.returns-else-is_empty
+returns-else-is_empty c =
+    let p = covers_end c.loop-wide.wide.now c.loop-wide.narrow.now (grind arith) in
+    grind (arith, nat_tests)

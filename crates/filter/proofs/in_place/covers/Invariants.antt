@@ -1,6 +1,9 @@
-use Rattle.std.proofs.Common.{◌≡◌, ◌*◌, drop}
+use Rattle.std.proofs.Common.{◌≡◌, length}
 use Rattle.filter.specs.Filter.{covers}
 use Rattle.filter.proofs.in_place.covers.Given as goal
 
-abbrev pub invariant-loop-k : goal.invariant-loop-k
-invariant-loop-k l = covers (drop (2 * l.k) l.outer) (drop (2 * l.k) l.inner) ≡ covers l.outer l.inner
+abbrev pub invariant-loop-wide : goal.invariant-loop-wide
+invariant-loop-wide l = covers l.wide l.narrow ≡ covers l.outer l.inner
+
+abbrev pub decreases-loop-wide : goal.decreases-loop-wide
+decreases-loop-wide l = length l.wide

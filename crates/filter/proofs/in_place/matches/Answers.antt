@@ -1,24 +1,20 @@
-use Rattle.std.proofs.Common.{◌*◌, drop, arith}
+use Rattle.std.proofs.Common.{arith}
 use Rattle.std.proofs.lemmas.Bool.Decides.{nat_tests}
-use Rattle.filter.proofs.Passes.{matches_shape, matches_more, matches_all}
+use Rattle.filter.proofs.Passes.{matches_pair, matches_end}
+use Rattle.filter.proofs.in_place.matches.Goals.{then-number-low-via-then-number-low, then-number-low-via-else-number-low+then-number-high}
 use Rattle.filter.proofs.in_place.matches.Goals as goal
 
-pub returns-then-filter-ne0 : goal.returns-then-filter-ne0
-returns-then-filter-ne0 c =
-    let p = matches_shape c.args.filter.now c.args.notice.now in
-    grind arith
+pub returns-then-number-low : goal.returns-then-number-low
+returns-then-number-low c =
+    let p = matches_pair c.loop-ranges.ranges.now c.loop-ranges.numbers.now (grind (arith, nat_tests)) (grind (arith, nat_tests)) in
+    elim c.then-number-low.branch [ then-number-low-via-then-number-low w ↦ grind (arith, nat_tests) | then-number-low-via-else-number-low+then-number-high w ↦ grind (arith, nat_tests) ]
 
-pub returns-then-notice-k : goal.returns-then-notice-k
-returns-then-notice-k c =
-    let p = matches_more c.args.filter.now c.args.notice.now c.loop-k.k (omega arith) (omega arith) in
-    grind (arith, nat_tests)
-
-pub loop-k-preserved : goal.loop-k-preserved
-loop-k-preserved c =
-    let p = matches_more c.args.filter.now c.args.notice.now c.loop-k.k (omega arith) (omega arith) in
+pub loop-ranges-preserved : goal.loop-ranges-preserved
+loop-ranges-preserved c =
+    let p = matches_pair c.loop-ranges.ranges.now c.loop-ranges.numbers.now (grind (arith, nat_tests)) (grind (arith, nat_tests)) in
     grind (arith, nat_tests)
 
 pub returns : goal.returns
 returns c =
-    let p = matches_all c.args.filter.now (drop c.loop-k.k c.args.notice.now) (2 * c.loop-k.k) (omega arith) in
-    cc
+    let p = matches_end c.loop-ranges.ranges.now c.loop-ranges.numbers.now (grind arith) in
+    grind (arith, nat_tests)

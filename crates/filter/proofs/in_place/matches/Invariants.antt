@@ -1,6 +1,9 @@
-use Rattle.std.proofs.Common.{◌≡◌, ◌*◌, drop}
+use Rattle.std.proofs.Common.{◌≡◌, length}
 use Rattle.filter.specs.Filter.{matches}
 use Rattle.filter.proofs.in_place.matches.Given as goal
 
-abbrev pub invariant-loop-k : goal.invariant-loop-k
-invariant-loop-k l = matches (drop (2 * l.k) l.filter) (drop l.k l.notice) ≡ matches l.filter l.notice
+abbrev pub invariant-loop-ranges : goal.invariant-loop-ranges
+invariant-loop-ranges l = matches l.ranges l.numbers ≡ matches l.filter l.notice
+
+abbrev pub decreases-loop-ranges : goal.decreases-loop-ranges
+decreases-loop-ranges l = length l.ranges

@@ -1,9 +1,0 @@
-use Rattle.std.proofs.Common.{◌≡◌, ◌-◌, arith}
-use Rattle.filter.proofs.Padding.{padded_is}
-use Rattle.filter.proofs.value.Filter.new.Goals as goal
-
-pub returns : goal.returns
-returns c =
-    let p = padded_is 16 c.min-n.result c.args.bounds.now (omega arith) in
-    let z : c.min-n.result - 0 ≡ c.min-n.result = omega arith in
-    cc
