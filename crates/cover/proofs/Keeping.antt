@@ -1,13 +1,15 @@
 -- A pass over rows that keeps some of them: in place, and into other words.
-use Rattle.std.proofs.Common.{◌≡◌, ℕ, ◌+◌, ◌-◌, ◌*◌, ◌≤◌, true, false, cond, List, [], ◌∷◌, ◌++◌, length, take, drop, sym, refl, ap, ◌∙◌, mul-le-mul_left, mul-zero, arith}
+use Rattle.std.proofs.Common.{◌≡◌, ℕ, ◌+◌, ◌-◌, ◌*◌, ◌<◌, ◌≤◌, true, false, cond, List, [], ◌∷◌, ◌++◌, length, take, drop, sym, refl, subst, ap, ◌∙◌, mul-le-mul_left, mul-zero, arith}
 use borrow.Rule.Slice.PartMut.{put_mid}
 use lib.Seq.{paste}
 use Rattle.std.proofs.lemmas.List.{append-nil, append_assoc, length-append, length-drop, length_push, take_at, drop_at, drop-drop}
 use Rattle.std.proofs.lemmas.List.Edits.{take-paste, drop-paste}
 use Rattle.filter.specs.Filter.{Filter, covers}
 use Rattle.cover.specs.Maximal.{among, outside, minus}
-use Rattle.cover.specs.Table.{rows, written}
-use Rattle.cover.proofs.RowLaws.{next, rows_push, length_row, written_append}
+use Rattle.cover.specs.Table.{rows, written, Wide}
+use Rattle.cover.proofs.Members.{among_append}
+use Rattle.cover.proofs.RowLaws.{next, rows_push, written_append}
+use Rattle.filter.proofs.Laws.{same_refl}
 
 pub outside_push : (f g : Filter) (gs : List Filter) → outside f (gs ++ g ∷ []) ≡ cond (covers f g) (outside f gs) (outside f gs ++ g ∷ [])
 unfolding outside
@@ -90,44 +92,54 @@ minus_push f (x ∷ fs) gs =
     let r = minus_push f fs gs in
     grind arith
 
--- of the first i rows of xs those that gs lacks stand in the first k rows of ys, and past that ys is as zs was
-pub record Picking (gs : List Filter) (w : ℕ) (xs zs ys : List ℕ) (k i : ℕ) : Type 0 where
-  pub words : ys ≡ written (minus (rows w i xs) gs) ++ drop (w * k) zs
-  pub long : length (written (minus (rows w i xs) gs)) ≡ w * k
-  pub counted : k ≡ length (minus (rows w i xs) gs)
-  pub behind : k ≤ i
+-- of the rows that were gone through those that gs lacks stand in the first k rows of ys, and past that ys is as zs was
+pub record Picked (gs : List Filter) (w : ℕ) (zs : List ℕ) (done : List Filter) (ys : List ℕ) (k : ℕ) : Type 0 where
+  pub words : ys ≡ written (minus done gs) ++ drop (w * k) zs
+  pub long : length (written (minus done gs)) ≡ w * k
+  pub counted : k ≡ length (minus done gs)
 
-pub picking_none : (gs : List Filter) (w : ℕ) (xs zs : List ℕ) → Picking gs w xs zs zs 0 0
-unfolding rows written minus
-picking_none gs w xs zs = record { words = rw (mul-zero w) refl; long = sym (mul-zero w); counted = refl; behind = omega arith }
+pub picked_none : (gs : List Filter) (w : ℕ) (zs : List ℕ) → Picked gs w zs [] zs 0
+unfolding written minus
+picked_none gs w zs = record { words = rw (mul-zero w) refl; long = sym (mul-zero w); counted = refl }
 
-pub picking_skip : (gs : List Filter) (w : ℕ) (xs zs ys : List ℕ) (k i : ℕ) → Picking gs w xs zs ys k i → among (take w (drop (w * i) xs)) gs ≡ true → Picking gs w xs zs ys k (i + 1)
-picking_skip gs w xs zs ys k i h c =
-    let p = rows_push w i xs in
-    let o = minus_push (take w (drop (w * i) xs)) (rows w i xs) gs in
-    let q : minus (rows w (i + 1) xs) gs ≡ minus (rows w i xs) gs = grind arith in
-    let b = h.behind in
-    record { words = rw q h.words; long = rw q h.long; counted = rw q h.counted; behind = omega arith }
+pub picked_skip : (gs : List Filter) (w : ℕ) (zs : List ℕ) (done : List Filter) (ys : List ℕ) (k : ℕ) (f : Filter) → Picked gs w zs done ys k → among f gs ≡ true → Picked gs w zs (done ++ f ∷ []) ys k
+picked_skip gs w zs done ys k f h c =
+    let o = minus_push f done gs in
+    let q : minus (done ++ f ∷ []) gs ≡ minus done gs = grind arith in
+    record { words = rw q h.words; long = rw q h.long; counted = rw q h.counted }
 
-pub picking_pick : (gs : List Filter) (w : ℕ) (xs zs ys : List ℕ) (k i : ℕ) → Picking gs w xs zs ys k i → among (take w (drop (w * i) xs)) gs ≡ false → w * i + w ≤ length xs →
-    Picking gs w xs zs (put_mid (w * k) w ys (take w (drop (w * i) xs))) (k + 1) (i + 1)
-picking_pick gs w xs zs ys k i h c b =
-    let p = rows_push w i xs in
-    let o = minus_push (take w (drop (w * i) xs)) (rows w i xs) gs in
-    let q : minus (rows w (i + 1) xs) gs ≡ minus (rows w i xs) gs ++ take w (drop (w * i) xs) ∷ [] = grind arith in
-    let n = h.behind in
-    let l = length_row w i xs b in
-    let v = written_push (minus (rows w i xs) gs) (take w (drop (w * i) xs)) in
-    let z = length_push (minus (rows w i xs) gs) (take w (drop (w * i) xs)) in
-    let t = take_at (written (minus (rows w i xs) gs)) (drop (w * k) zs) (w * k) h.long in
-    let d = drop_at (written (minus (rows w i xs) gs)) (drop (w * k) zs) (w * k) h.long in
+pub picked_one : (gs : List Filter) (w : ℕ) (zs : List ℕ) (done : List Filter) (ys : List ℕ) (k : ℕ) (f : Filter) → Picked gs w zs done ys k → among f gs ≡ false → length f ≡ w →
+    Picked gs w zs (done ++ f ∷ []) (put_mid (w * k) w ys f) (k + 1)
+picked_one gs w zs done ys k f h c l =
+    let o = minus_push f done gs in
+    let q : minus (done ++ f ∷ []) gs ≡ minus done gs ++ f ∷ [] = grind arith in
+    let v = written_push (minus done gs) f in
+    let z = length_push (minus done gs) f in
+    let t = take_at (written (minus done gs)) (drop (w * k) zs) (w * k) h.long in
+    let d = drop_at (written (minus done gs)) (drop (w * k) zs) (w * k) h.long in
     let e = drop-drop w (w * k) zs in
-    let m = length-append (written (minus (rows w i xs) gs)) (take w (drop (w * i) xs)) in
+    let m = length-append (written (minus done gs)) f in
     let counts = h.counted in
     let was = h.long in
     record {
-      words = rw (q, v, next w k, h.words, t, d, e) (sym (append_assoc (written (minus (rows w i xs) gs)) (take w (drop (w * i) xs)) (drop (w * k + w) zs)));
+      words = rw (q, v, next w k, h.words, t, d, e) (sym (append_assoc (written (minus done gs)) f (drop (w * k + w) zs)));
       long = rw (q, v, next w k) (omega arith);
       counted = rw q (omega arith);
-      behind = omega arith;
     }
+
+-- a row more, where these rows were gone through and those are left
+pub gone_through : (done rest all : List Filter) (f : Filter) (left : List Filter) → done ++ left ≡ all → left ≡ f ∷ rest → (done ++ f ∷ []) ++ rest ≡ all
+gone_through done rest all f left e g = append_assoc done (f ∷ []) rest ∙ (ap (λ xs. done ++ xs) (sym g) ∙ e)
+
+pub gone_all : (done all left : List Filter) → done ++ left ≡ all → left ≡ [] → done ≡ all
+gone_all done all left e g = sym (append-nil done) ∙ (ap (λ xs. done ++ xs) (sym g) ∙ e)
+
+-- a row that is still to come is as wide as the others, and fewer than all were gone through
+pub yet_to_come : (w : ℕ) (done rest all : List Filter) (f : Filter) (left : List Filter) → Wide w all → done ++ left ≡ all → left ≡ f ∷ rest → (length f ≡ w) × (length done < length all)
+unfolding among
+yet_to_come w done rest all f left h e g =
+    let a = among_append f done (f ∷ rest) in
+    let s = same_refl f in
+    let l = length-append done (f ∷ rest) in
+    let k : done ++ (f ∷ rest) ≡ all = ap (λ xs. done ++ xs) (sym g) ∙ e in
+    (h f (subst (λ xs. among f xs ≡ true) k (grind arith)), subst (λ xs. length done < length xs) k (omega arith))

@@ -1,12 +1,11 @@
 -- What the entry writes: two rows of filters after two counts, and what the tests of its rows tell.
-use Rattle.std.proofs.Common.{◌≡◌, ℕ, suc, ◌+◌, ◌-◌, ◌*◌, ◌<◌, ◌≤◌, List, [], ◌∷◌, ◌++◌, length, get_or, take, drop, set, sym, refl, ap, ◌∙◌, mul-le-mul, arith}
+use Rattle.std.proofs.Common.{◌≡◌, ℕ, suc, ◌+◌, ◌-◌, ◌*◌, ◌<◌, ◌≤◌, None, is_none, Ok, List, [], ◌∷◌, ◌++◌, length, get_or, take, drop, set, sym, refl, ap, ◌∙◌, mul-le-mul, arith}
 use borrow.Rule.Slice.PartMut.{put_mid}
 use Rattle.std.proofs.lemmas.List.{append-nil, append_assoc, length-append, length-drop, length-take-le, drop-drop, drop_at, take_at, drop_all, take_rest}
 use Rattle.std.proofs.lemmas.Bool.Decides.{nat_tests}
 use Rattle.cover.specs.Maximal.{minus, maximal}
 use Rattle.cover.specs.Table.{rows, written, held, laid}
-use Rattle.cover.specs.declared.telling.Reply.TheVariants.{Done}
-use Rattle.cover.specs.Entry.{TellSays, to_announce, announced_before, known_whole, said_whole, refusal}
+use Rattle.cover.specs.Entry.{TellSays, to_announce, announced_before, known_whole, said_whole, unfit}
 use Rattle.cover.proofs.RowLaws.{length_rows, written_rows}
 use Rattle.cover.proofs.TableLaws.{wide_rows, wide_maximal, held_laid}
 use Rattle.cover.proofs.Maximals.{length_maximal}
@@ -45,7 +44,7 @@ mail_written mail first second p q x y one two l b e f =
     let both : two ≡ take 2 mail ++ (first ++ (second ++ drop (2 + p + q) mail)) = rw (head, rest) at f ∙ append_assoc (take 2 mail) first (second ++ drop (2 + p + q) mail) in
     rw both (two_counts mail (first ++ (second ++ drop (2 + p + q) mail)) x y (omega arith))
 
--- what is known of rows that are not refused
+-- what is known of rows that are not unfit
 pub record Accepted (known said mail : List ℕ) : Type 0 where
   pub known_long : 2 ≤ length known
   pub pairs_some : 1 ≤ get_or known 0 0
@@ -57,9 +56,10 @@ pub record Accepted (known said mail : List ℕ) : Type 0 where
   pub said_long : 16385 ≤ length said
   pub mail_long : 32770 ≤ length mail
 
-pub accepted : (known said mail : List ℕ) → refusal known said mail ≡ 0 → Accepted known said mail
-unfolding refusal known_whole said_whole
+pub accepted : (known said mail : List ℕ) → unfit known said mail ≡ None → Accepted known said mail
+unfolding unfit known_whole said_whole
 accepted known said mail h =
+    let n = ap is_none h in
     record {
       known_long = grind (arith, nat_tests);
       pairs_some = grind (arith, nat_tests);
@@ -113,13 +113,13 @@ announcing known said mail t a l e =
     record { holds = ap (held (2 * get_or known 0 0)) u ∙ h; counted = c; few = f; long = l; there = omega arith }
 
 -- and what the entry has done with it
-pub tell_done : (known said mail t said₁ mail₁ : List ℕ) (changes : ℕ) → refusal known said mail ≡ 0 → Announcing known t →
+pub tell_done : (known said mail t said₁ mail₁ : List ℕ) (changes : ℕ) → unfit known said mail ≡ None → Announcing known t →
     changes ≡ length (minus (held (2 * get_or known 0 0) t) (held (2 * get_or known 0 0) said)) + length (minus (held (2 * get_or known 0 0) said) (held (2 * get_or known 0 0) t)) →
     mail₁ ≡ length (minus (held (2 * get_or known 0 0) t) (held (2 * get_or known 0 0) said)) ∷ (length (minus (held (2 * get_or known 0 0) said) (held (2 * get_or known 0 0) t)) ∷ (written (minus (held (2 * get_or known 0 0) t) (held (2 * get_or known 0 0) said)) ++ (written (minus (held (2 * get_or known 0 0) said) (held (2 * get_or known 0 0) t)) ++ drop (2 + 2 * get_or known 0 0 * changes) mail))) →
     said₁ ≡ length (held (2 * get_or known 0 0) t) ∷ (written (held (2 * get_or known 0 0) t) ++ drop (1 + 2 * get_or known 0 0 * get_or t 0 0) said) →
-    TellSays known said mail (refusal known said mail) (Done changes) said₁ mail₁
+    TellSays known said mail (unfit known said mail) (Ok changes) said₁ mail₁
 unfolding TellSays announced_before held
 tell_done known said mail t said₁ mail₁ changes z a c m s =
     let h = a.holds in
     let n = rw h at c in
-    rw z (ap Done n, rw (h, a.counted) at s, rw (h, n) at m)
+    rw z (ap Ok n, rw (h, a.counted) at s, rw (h, n) at m)

@@ -1,13 +1,13 @@
 -- Rows of words: one row more, rows before and after a place, and what was written is there.
-use Rattle.std.proofs.Common.{◌≡◌, ℕ, zero, suc, ◌+◌, ◌-◌, ◌*◌, ◌<◌, ◌≤◌, Bool, false, cond, not, ◌&&◌, ◌||◌, ltb, List, [], ◌∷◌, ◌++◌, length, get_or, take, drop, sym, refl, ap, mul-le-mul_left, mul-zero, mul-suc, arith, take-add}
+use Rattle.std.proofs.Common.{◌≡◌, ℕ, zero, suc, ◌+◌, ◌-◌, ◌*◌, ◌<◌, ◌≤◌, Bool, false, cond, not, ◌&&◌, ◌||◌, ltb, true, Option, Some, None, is_some, unwrap_or, Result, Ok, Err, is_ok, MatchOption, List, [], ◌∷◌, ◌++◌, length, get_or, take, drop, sym, refl, ap, mul-le-mul_left, mul-zero, mul-suc, ◌∙◌, true≢false, arith, take-add}
 use native.Mathlib.Nat.{mul-sub}
-use Rattle.std.specs.List.{insert, remove}
-use Rattle.std.proofs.lemmas.List.{append_assoc, length-append, length-take-le, length-drop, drop-drop, drop_at, take_at, drop_all, drop_more}
+use Rattle.std.specs.List.{list_any, position_or_len, insert, remove}
+use Rattle.std.proofs.lemmas.List.{append_assoc, length-append, drop-drop, drop_at, take_at, drop_more}
 use Rattle.filter.specs.Filter.{Filter, Notice, matches, same, covers, before}
 use Rattle.std.proofs.lemmas.Bool.Decides.{nat_tests}
 use Rattle.filter.proofs.Laws.{same_refl, same_tells, before_irrefl}
 use Rattle.cover.specs.Maximal.{among, any_covers, any_matches, put, without}
-use Rattle.cover.specs.Table.{rows, written, Wide, first}
+use Rattle.cover.specs.Table.{rows, written, Wide, first, found}
 
 -- one row more, in words
 pub next : (w i : ℕ) → w * (i + 1) ≡ w * i + w
@@ -19,6 +19,17 @@ pub length_rows : (w n : ℕ) (xs : List ℕ) → length (rows w n xs) ≡ n
 unfolding rows
 length_rows w zero xs = refl
 length_rows w (suc n) xs = ap suc (length_rows w n (drop w xs))
+
+pub rows_none : (w n : ℕ) (xs : List ℕ) → n ≡ 0 → rows w n xs ≡ []
+unfolding rows
+rows_none w n xs e = rw e refl
+
+pub rows_head : (w n : ℕ) (xs : List ℕ) → 0 < n → rows w n xs ≡ take w xs ∷ rows w (n - 1) (drop w xs)
+unfolding rows
+rows_head w zero xs h = absurd (omega arith)
+rows_head w (suc n) xs h =
+    let e : suc n - 1 ≡ n = omega arith in
+    rw e refl
 
 pub rows_more : (w n : ℕ) (xs : List ℕ) (i : ℕ) → i < n → drop i (rows w n xs) ≡ take w (drop (w * i) xs) ∷ drop (i + 1) (rows w n xs)
 unfolding rows
@@ -102,31 +113,6 @@ row_fits w n i l h b =
     let m = mul-le-mul_left w h in
     omega (arith, mul-suc w i)
 
--- a pass for the first row that passes a test, one row on
-pub first_more : (p : Filter → Bool) (w n : ℕ) (xs : List ℕ) (i : ℕ) → i < n → first p (drop i (rows w n xs)) ≡ cond (p (take w (drop (w * i) xs))) 0 (suc (first p (drop (i + 1) (rows w n xs))))
-unfolding first
-first_more p w n xs i h = ap (first p) (rows_more w n xs i h)
-
-pub first_all : (p : Filter → Bool) (w n : ℕ) (xs : List ℕ) (i : ℕ) → n ≤ i → first p (drop i (rows w n xs)) ≡ 0
-unfolding first
-first_all p w n xs i h = ap (first p) (drop_all i (rows w n xs) (omega (arith, length_rows w n xs)))
-
-pub any_covers_more : (f : Filter) (w n : ℕ) (xs : List ℕ) (i : ℕ) → i < n → any_covers (drop i (rows w n xs)) f ≡ (covers (take w (drop (w * i) xs)) f || any_covers (drop (i + 1) (rows w n xs)) f)
-unfolding any_covers
-any_covers_more f w n xs i h = ap (λ gs. any_covers gs f) (rows_more w n xs i h)
-
-pub any_covers_all : (f : Filter) (w n : ℕ) (xs : List ℕ) (i : ℕ) → n ≤ i → any_covers (drop i (rows w n xs)) f ≡ false
-unfolding any_covers
-any_covers_all f w n xs i h = ap (λ gs. any_covers gs f) (drop_all i (rows w n xs) (omega (arith, length_rows w n xs)))
-
-pub any_matches_more : (e : Notice) (w n : ℕ) (xs : List ℕ) (i : ℕ) → i < n → any_matches (drop i (rows w n xs)) e ≡ (matches (take w (drop (w * i) xs)) e || any_matches (drop (i + 1) (rows w n xs)) e)
-unfolding any_matches
-any_matches_more e w n xs i h = ap (λ gs. any_matches gs e) (rows_more w n xs i h)
-
-pub any_matches_all : (e : Notice) (w n : ℕ) (xs : List ℕ) (i : ℕ) → n ≤ i → any_matches (drop i (rows w n xs)) e ≡ false
-unfolding any_matches
-any_matches_all e w n xs i h = ap (λ gs. any_matches gs e) (drop_all i (rows w n xs) (omega (arith, length_rows w n xs)))
-
 -- one row more
 pub rows_push : (w n : ℕ) (xs : List ℕ) → rows w (n + 1) xs ≡ rows w n xs ++ take w (drop (w * n) xs) ∷ []
 unfolding rows
@@ -173,9 +159,6 @@ get_d_rows w n i xs h =
     let d = drop_more (rows w n xs) i [] (omega (arith, length_rows w n xs)) in
     cc
 
-pub length_row : (w i : ℕ) (xs : List ℕ) → w * i + w ≤ length xs → length (take w (drop (w * i) xs)) ≡ w
-length_row w i xs h = length-take-le w (drop (w * i) xs) (omega (arith, length-drop (w * i) xs))
-
 -- the first that is the same as f stands within the list just if f is a member
 pub first_among : (f : Filter) (gs : List Filter) → ltb (first (λ g. same f g) gs) (length gs) ≡ among f gs
 unfolding first among
@@ -208,3 +191,98 @@ without_at f [] = refl
 without_at f (g ∷ gs) =
     let r = without_at f gs in
     grind (arith, nat_tests, same_tells)
+
+-- the tests of all filters of a list, in the library's words
+pub among_any : (f : Filter) (gs : List Filter) → among f gs ≡ list_any (λ g. same f g) gs
+unfolding among
+among_any f [] = refl
+among_any f (g ∷ gs) = ap (λ b. same f g || b) (among_any f gs)
+
+pub covers_any : (gs : List Filter) (f : Filter) → any_covers gs f ≡ list_any (λ g. covers g f) gs
+unfolding any_covers
+covers_any [] f = refl
+covers_any (g ∷ gs) f = ap (λ b. covers g f || b) (covers_any gs f)
+
+pub matches_any : (gs : List Filter) (e : Notice) → any_matches gs e ≡ list_any (λ g. matches g e) gs
+unfolding any_matches
+matches_any [] e = refl
+matches_any (g ∷ gs) e = ap (λ b. matches g e || b) (matches_any gs e)
+
+-- the first filter that passes, in the library's words
+pub first_is : (p : Filter → Bool) (gs : List Filter) → position_or_len p gs ≡ first p gs
+unfolding first
+first_is p [] = refl
+first_is p (g ∷ gs) =
+    let r = first_is p gs in
+    grind arith
+
+pub first_of : (f : Filter) (gs : List Filter) →
+    cond (ltb (position_or_len (λ g. same f g) gs) (length gs)) (Some (position_or_len (λ g. same f g) gs)) None ≡ cond (among f gs) (Some (first (λ g. same f g) gs)) None
+first_of f gs = rw (first_is (λ g. same f g) gs, first_among f gs) refl
+
+-- the place of the first that passes, as the library's `position` finds it
+pub first_at : (p : Filter → Bool) (gs : List Filter) (n : ℕ) (r : Option ℕ) → length gs ≡ n → r ≡ cond (ltb (position_or_len p gs) (length gs)) (Some (position_or_len p gs)) None →
+    MatchOption r (first p gs ≡ n) (λ i. (first p gs ≡ i) × (i < n))
+first_at p gs n r l e = rw (e, first_is p gs) (go (ltb (first p gs) (length gs)) refl)
+  where
+    go : (b : Bool) → ltb (first p gs) (length gs) ≡ b → MatchOption (cond b (Some (first p gs)) None) (first p gs ≡ n) (λ i. (first p gs ≡ i) × (i < n))
+    go true h = (refl, grind (arith, nat_tests))
+    go false h =
+        let w = first_within p gs in
+        grind (arith, nat_tests)
+
+pub found_past : (f : Filter) (gs : List Filter) (n : ℕ) → length gs ≡ n → first (λ g. not (before g f)) gs ≡ n → found f gs ≡ Err n
+unfolding found
+found_past f gs n l e =
+    let t : ltb n (length gs) ≡ false = grind (arith, nat_tests) in
+    rw (e, t) refl
+
+pub found_at : (f : Filter) (gs : List Filter) (at n : ℕ) (b : Bool) → length gs ≡ n → (first (λ g. not (before g f)) gs ≡ at) × (at < n) → b ≡ same f (get_or gs at []) → found f gs ≡ cond b (Ok at) (Err at)
+unfolding found
+found_at f gs at n b l e s =
+    let t : ltb at (length gs) ≡ true = grind (arith, nat_tests) in
+    rw (e.0, t, ← s) refl
+
+-- what was found, read back
+pub found_ok : (f : Filter) (gs : List Filter) (at : ℕ) → Ok at ≡ found f gs → put f gs ≡ gs
+unfolding found
+found_ok f gs at e = put_at f gs ∙ go (ltb (first (λ g. not (before g f)) gs) (length gs) && same f (get_or gs (first (λ g. not (before g f)) gs) [])) e
+  where
+    go : (b : Bool) → Ok at ≡ cond b (Ok (first (λ g. not (before g f)) gs)) (Err (first (λ g. not (before g f)) gs)) → cond b gs (insert gs (first (λ g. not (before g f)) gs) f) ≡ gs
+    go true h = refl
+    go false h = absurd (true≢false (ap is_ok h))
+
+pub found_err : (f : Filter) (gs : List Filter) (at : ℕ) → Err at ≡ found f gs → (put f gs ≡ insert gs at f) × (at ≤ length gs)
+unfolding found
+found_err f gs at e = go (ltb (first (λ g. not (before g f)) gs) (length gs) && same f (get_or gs (first (λ g. not (before g f)) gs) [])) refl e
+  where
+    error_of : Result ℕ ℕ → ℕ
+    error_of (Ok n) = 0
+    error_of (Err n) = n
+
+    go : (b : Bool) → (ltb (first (λ g. not (before g f)) gs) (length gs) && same f (get_or gs (first (λ g. not (before g f)) gs) [])) ≡ b →
+        Err at ≡ cond b (Ok (first (λ g. not (before g f)) gs)) (Err (first (λ g. not (before g f)) gs)) → (put f gs ≡ insert gs at f) × (at ≤ length gs)
+    go true b h = absurd (true≢false (sym (ap is_ok h)))
+    go false b h =
+        let p = put_at f gs in
+        let a : at ≡ first (λ g. not (before g f)) gs = ap error_of h in
+        let w = first_within (λ g. not (before g f)) gs in
+        (rw (p, b, a) refl, omega arith)
+
+-- the place of f among the filters of a list, read back
+pub place_found : (f : Filter) (gs : List Filter) (at : ℕ) → Some at ≡ cond (among f gs) (Some (first (λ g. same f g) gs)) None → (at ≡ first (λ g. same f g) gs) × (at < length gs)
+place_found f gs at e = go (among f gs) refl e
+  where
+    go : (b : Bool) → among f gs ≡ b → Some at ≡ cond b (Some (first (λ g. same f g) gs)) None → (at ≡ first (λ g. same f g) gs) × (at < length gs)
+    go true m h =
+        let a : at ≡ first (λ g. same f g) gs = ap (λ o. unwrap_or o 0) h in
+        let r = first_among f gs in
+        (a, grind (arith, nat_tests))
+    go false m h = absurd (true≢false (ap is_some h))
+
+pub place_lacking : (f : Filter) (gs : List Filter) → None ≡ cond (among f gs) (Some (first (λ g. same f g) gs)) None → among f gs ≡ false
+place_lacking f gs e = go (among f gs) refl e
+  where
+    go : (b : Bool) → among f gs ≡ b → None ≡ cond b (Some (first (λ g. same f g) gs)) None → b ≡ false
+    go true m h = absurd (true≢false (sym (ap is_some h)))
+    go false m h = refl

@@ -1,21 +1,7 @@
 -- Words that move within a list: copied down, moved up for a row that comes in, moved down for one that goes out.
-use Rattle.std.proofs.Common.{◌≡◌, ℕ, ◌+◌, ◌-◌, ◌<◌, ◌≤◌, List, ◌++◌, length, get_or, take, drop, set, replicate, sym, refl, ap, ◌∙◌, arith}
+use Rattle.std.proofs.Common.{◌≡◌, ℕ, ◌+◌, ◌-◌, ◌≤◌, List, ◌++◌, length, take, drop, replicate, sym, refl, ap, ◌∙◌, arith}
 use borrow.Rule.Slice.PartMut.{put_mid}
-use lib.Seq.{paste}
-use Rattle.std.proofs.lemmas.List.{places, append_assoc, length-append, length-drop, length-take-le, get_or-drop, take_at, take-take, drop_at, drop-drop, drop-take}
-use Rattle.std.proofs.lemmas.List.Edits.{paste_more}
-
-getD_paste_past : (d s : List ℕ) (at n i : ℕ) → at + n ≤ length d → n ≤ length s → at + n ≤ i → get_or (paste d at s n) i 0 ≡ get_or d i 0
-getD_paste_past d s at n i h k b = grind (arith, places)
-
-pub copy_more : (d : List ℕ) (from to j : ℕ) → to ≤ from → from + j < length d →
-    set (paste d to (drop from d) j) (to + j) (get_or (paste d to (drop from d) j) (from + j) 0) ≡ paste d to (drop from d) (j + 1)
-copy_more d from to j h b =
-    let l = length-drop from d in
-    let g = getD_paste_past d (drop from d) to j (from + j) (omega arith) (omega arith) (omega arith) in
-    let e = get_or-drop from d j 0 in
-    let p = paste_more d to (drop from d) j 0 (omega arith) (omega arith) in
-    rw (g, ← e) p
+use Rattle.std.proofs.lemmas.List.{append_assoc, length-append, length-drop, length-take-le, take_at, take-take, drop_at, drop-drop, drop-take}
 
 -- a part in front of another, with f in its place
 over_front : (a c b d f : List ℕ) (at k : ℕ) → length a ≡ at → length c ≡ k → put_mid at k (a ++ ((c ++ b) ++ d)) f ≡ a ++ (f ++ (b ++ d))

@@ -1,19 +1,22 @@
 -- Tables in words: what a table holds after filters were stored in it, and that storing forgets what was stored before.
-use Rattle.std.proofs.Common.{◌≡◌, ℕ, zero, suc, ◌+◌, ◌-◌, ◌*◌, ◌<◌, ◌≤◌, true, false, not, ◌&&◌, ltb, List, [], ◌∷◌, ◌++◌, length, get_or, take, drop, set, replicate, sym, refl, ap, ◌∙◌, ⊎_elim, mul-le-mul_left, mul-zero, mul-suc, arith}
+use Rattle.std.proofs.Common.{◌≡◌, ℕ, zero, suc, ◌+◌, ◌-◌, ◌*◌, ◌<◌, ◌≤◌, true, false, List, [], ◌∷◌, ◌++◌, length, get_or, take, drop, set, replicate, sym, refl, ap, ◌∙◌, ⊎_elim, mul-le-mul_left, mul-zero, mul-suc, arith}
 use native.Mathlib.Nat.{mul-sub}
 use borrow.Rule.Slice.PartMut.{put_mid}
 use Rattle.std.proofs.lemmas.List.{append-nil, append_assoc, length-append, length-drop, length_push, length-take-le, length-replicate, drop-drop, drop_at, drop_all, drop-append-le, drop-replicate, take_rest, take-append-drop, replicate-append-replicate}
 use Rattle.std.proofs.lemmas.List.Edits.{length-insert as length_inserted, length-remove}
 use Rattle.std.proofs.lemmas.Bool.{cases_lt}
 use Rattle.std.specs.List.{insert as inserted, remove}
-use Rattle.filter.specs.Filter.{Filter, same, before}
+use Rattle.filter.specs.Filter.{Filter}
 use Rattle.filter.proofs.Laws.{same_tells}
 use Rattle.cover.specs.Maximal.{among, put, without, outside, insert, any_covers, maximal, minus, ordered, uncovered}
-use Rattle.cover.specs.Table.{rows, written, Wide, held, blanked, stored, changed, laid, inserted_all, first}
+use Rattle.cover.specs.Table.{rows, written, Wide, held, blanked, stored, changed, laid, inserted_all}
+use Rattle.cover.specs.Rows.{listed}
+use Rattle.cover.specs.declared.rows.Rows.{Rows}
+use Rattle.cover.proofs.Keeping.{Picked, yet_to_come}
 use Rattle.cover.proofs.Members.{among_append, among_put, among_minus}
 use Rattle.cover.proofs.Order.{among_without_part}
 use Rattle.cover.proofs.Maximals.{among_outside, among_insert, maximal_member, maximal_push}
-use Rattle.cover.proofs.RowLaws.{length_rows, rows_more, wide_head, wide_tail, rows_written, written_rows, length_written, written_append, next, put_at}
+use Rattle.cover.proofs.RowLaws.{length_rows, row_fits, wide_head, wide_tail, rows_written, written_rows, length_written, written_append, next}
 
 -- the words past the count, as they are lent
 pub held_part : (w : ℕ) (t : List ℕ) → rows w (get_or t 0 0) (take (length t - 1) (drop 1 t)) ≡ held w t
@@ -217,17 +220,6 @@ length_insert f gs =
     let b = length_put f (outside f gs) in
     grind arith
 
--- put at the place where the first stands that does not come before f
-pub put_stands : (f : Filter) (gs : List Filter) (at n : ℕ) → length gs ≡ n → at ≡ first (λ g. not (before g f)) gs → (ltb at n && same f (get_or gs at [])) ≡ true → put f gs ≡ gs
-put_stands f gs at n l e s =
-    let a = put_at f gs in
-    grind arith
-
-pub put_opens : (f : Filter) (gs : List Filter) (at n : ℕ) → length gs ≡ n → at ≡ first (λ g. not (before g f)) gs → (ltb at n && same f (get_or gs at [])) ≡ false → put f gs ≡ inserted gs at f
-put_opens f gs at n l e s =
-    let a = put_at f gs in
-    grind arith
-
 -- a table with one filter more
 pub stored_inserted : (w : ℕ) (t ys : List ℕ) (at : ℕ) (f : Filter) → 0 < length t → at ≤ get_or t 0 0 →
     ys ≡ written (inserted (held w t) at f) ++ drop (w * get_or t 0 0 + w) (drop 1 t) →
@@ -329,16 +321,14 @@ unfolding stored
 getD_stored w fs t = refl
 
 -- a pass that inserts, one row on
-pub inserted_all_more : (w n : ℕ) (xs : List ℕ) (t : List ℕ) (i : ℕ) → i < n →
-    inserted_all w (drop i (rows w n xs)) t ≡ inserted_all w (drop (i + 1) (rows w n xs)) (stored w (insert (take w (drop (w * i) xs)) (held w t)) t)
+pub inserted_one : (w : ℕ) (f : Filter) (rest fs : List Filter) (t : List ℕ) → fs ≡ f ∷ rest → inserted_all w rest (stored w (insert f (held w t)) t) ≡ inserted_all w fs t
 unfolding inserted_all
-inserted_all_more w n xs t i h = ap (λ fs. inserted_all w fs t) (rows_more w n xs i h)
+inserted_one w f rest fs t e = rw e refl
 
-pub inserted_all_done : (w n : ℕ) (xs : List ℕ) (t : List ℕ) (i : ℕ) → n ≤ i → inserted_all w (drop i (rows w n xs)) t ≡ t
+pub inserted_none : (w : ℕ) (fs : List Filter) (t : List ℕ) → fs ≡ [] → t ≡ inserted_all w fs t
 unfolding inserted_all
-inserted_all_done w n xs t i h = ap (λ fs. inserted_all w fs t) (drop_all i (rows w n xs) (omega (arith, length_rows w n xs)))
+inserted_none w fs t e = rw e refl
 
--- a table that holds these filters and nothing else
 pub held_laid : (w n : ℕ) (fs : List Filter) → Wide w fs → held w (laid w n fs) ≡ fs
 unfolding held laid
 held_laid w n fs h = rows_written w fs _ h
@@ -402,3 +392,14 @@ unfolding among maximal ordered uncovered
 inserted_all_none w n fs b h =
     let e : 0 + length fs ≡ length fs = omega arith in
     rw (← laid_none w n (omega arith)) (inserted_all_laid w n fs [] (λ f m. absurd (grind arith)) b (rw e h))
+
+-- a row that comes next fits where those that were picked leave off
+pub next_fits : (r : Rows) (gs done rest : List Filter) (f : Filter) (left : List Filter) (zs ys : List ℕ) (k : ℕ) → Picked gs r.width zs done ys k → done ++ left ≡ listed r → left ≡ f ∷ rest →
+    (length f ≡ r.width) × (k < r.left) × (r.width * k + r.width ≤ r.width * r.left)
+next_fits r gs done rest f left zs ys k h e g =
+    let w = wide_rows r.width r.left r.words.now r.there in
+    let y = yet_to_come r.width done rest (listed r) f left w e g in
+    let l = length_rows r.width r.left r.words.now in
+    let m = length_minus done gs in
+    let n : k < r.left = omega (arith, h.counted, y.1) in
+    (y.0, n, row_fits r.width r.left k (r.width * r.left) n (omega arith))

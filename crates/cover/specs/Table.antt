@@ -1,6 +1,6 @@
 -- Tables of filters in words: a count, then the filters, each of the same width.
-use Rattle.std.specs.Prelude.{◌≡◌, ℕ, zero, suc, ◌+◌, ◌-◌, ◌*◌, ◌≤◌, Bool, true, cond, List, [], ◌∷◌, ◌++◌, length, take, drop, replicate, slice_index}
-use Rattle.filter.specs.Filter.{Filter}
+use Rattle.std.specs.Prelude.{◌≡◌, ℕ, zero, suc, ◌+◌, ◌-◌, ◌*◌, ◌≤◌, Bool, true, cond, not, ◌&&◌, nat_lt, List, [], ◌∷◌, ◌++◌, length, take, drop, replicate, slice_index, slice_index_or, Ok, Err, Result}
+use Rattle.filter.specs.Filter.{Filter, same, before}
 use Rattle.cover.specs.Maximal.{among, insert}
 
 -- n rows of w words
@@ -44,6 +44,12 @@ changed w change t = stored w (change (held w t)) t
 unfoldable pub first : (Filter → Bool) → List Filter → ℕ
 first p [] = 0
 first p (f ∷ fs) = cond (p f) 0 (suc (first p fs))
+
+-- the place of f in a list in order, or else the place where it belongs: that of the first filter that does not come before it
+unfoldable pub found : Filter → List Filter → Result ℕ ℕ
+found f gs =
+    let at = first (λ g. not (before g f)) gs in
+    cond (nat_lt at (length gs) && same f (slice_index_or gs at [])) (Ok at) (Err at)
 
 -- the table of n words that holds these filters and nothing else
 unfoldable pub laid : ℕ → ℕ → List Filter → List ℕ

@@ -1,9 +1,12 @@
 // The maximal filters of a table, and what to announce.
 #![tactic(auto)]
 
-mod rows;
+mod lookup;
+pub mod moving;
+pub mod rows;
 pub mod table;
 pub mod telling;
 pub mod theorems;
 
-pub use telling::{Reply, tell};
+pub use rows::Rows;
+pub use telling::{Unfit, tell};

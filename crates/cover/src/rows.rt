@@ -1,200 +1,60 @@
-// Passes over the rows of a table, compared in place. Rows are as wide as the filter they are compared with, and stand one after the other from
-// the start of the slice.
-ghost use Rattle.std.specs.Prelude.{◌≡◌, ◌+◌, ◌-◌, ◌*◌, ◌<◌, ◌≤◌, not, ◌&&◌, [], ◌++◌, length, take, drop, replicate, nat_lt, slice_index_or, slice_range};
-ghost use borrow.Rule.Slice.PartMut.{put_mid};
-ghost use Rattle.std.proofs.Math.Seq.{paste};
-ghost use Rattle.std.specs.List.{insert, remove};
-ghost use Rattle.filter.specs.Filter.{same, before};
-ghost use Rattle.cover.specs.Maximal.{among, any_covers, any_matches, outside, minus};
-ghost use Rattle.cover.specs.Table.{rows, first, written};
+// Rows of words that lie one after the other in lent words, each as wide as the others: an iterator over those that are left.
+ghost use Rattle.std.specs.Prelude.{◌≡◌, ◌*◌, ◌≤◌, length, slice_index};
+ghost use Rattle.std.specs.Iterator.{YieldsFirstRef, item_count};
+ghost use Rattle.cover.specs.Table.{Whole, rows, held};
 
-use filter::in_place;
-
-// The row at place i.
-pub(crate) fn row(words: &[u64], width: usize, i: usize) -> &[u64]
-    requires { width * i + width ≤ length words.now }
-    ensures { result.now ≡ take width (drop (width * i) words.now) }
-{
-    &words[width * i..width * i + width]
+#[derive(Clone, Copy)]
+pub struct Rows<'a> {
+    pub words: &'a [u64],
+    pub width: usize,
+    pub left: usize,
+    ghost there: { width * left ≤ length words.now },
 }
 
-// How many rows stand before the first that is the same as f; all, if none is.
-pub(crate) fn find(words: &[u64], count: usize, f: &[u64]) -> usize
-    requires { length f.now * count ≤ length words.now }
-    ensures { result ≡ first (λ g. same f.now g) (rows (length f.now) count words.now) }
-{
-    for i in 0..count {
-        if in_place::same(f, row(words, f.len(), i)) {
-            return i;
+impl<'a> Rows<'a> {
+    // The first rows of a list.
+    pub fn new(words: &'a [u64], width: usize, count: usize) -> Rows<'a>
+        requires { width * count ≤ length words.now }
+        ensures rows { rows result.width result.left result.words.now ≡ rows width count words.now }
+        ensures width { result.width ≡ width }
+        ensures count { result.left ≡ count }
+    {
+        Rows {
+            words,
+            width,
+            left: count,
         }
     }
-    count
-}
 
-// How many rows stand before the first that does not come before f: the place of f in a table in order.
-pub(crate) fn place(words: &[u64], count: usize, f: &[u64]) -> usize
-    requires { length f.now * count ≤ length words.now }
-    ensures { result ≡ first (λ g. not (before g f.now)) (rows (length f.now) count words.now) }
-{
-    for i in 0..count {
-        if !in_place::before(row(words, f.len(), i), f) {
-            return i;
+    // The rows of a part that begins with their count.
+    pub fn counted(part: &'a [u64], width: usize) -> Rows<'a>
+        requires { Whole width part.now }
+        ensures rows { rows result.width result.left result.words.now ≡ held width part.now }
+        ensures width { result.width ≡ width }
+        ensures count { result.left ≡ slice_index part.now 0 }
+    {
+        Rows {
+            words: &part[1..],
+            width,
+            left: part[0] as usize,
         }
     }
-    count
 }
 
-// Whether f is one of the rows.
-pub(crate) fn has(words: &[u64], count: usize, f: &[u64]) -> bool
-    requires { length f.now * count ≤ length words.now }
-    ensures { result ≡ among f.now (rows (length f.now) count words.now) }
-{
-    find(words, count, f) < count
-}
+impl<'a> Iterator for Rows<'a> {
+    type Item = &'a [u64];
 
-// Whether the row at a place is there and is the same as f.
-pub(crate) fn stands(words: &[u64], count: usize, at: usize, f: &[u64]) -> bool
-    requires { length f.now * count ≤ length words.now }
-    ensures { result ≡ (nat_lt at count && same f.now (slice_index_or (rows (length f.now) count words.now) at [])) }
-{
-    if at >= count {
-        return false;
-    }
-    in_place::same(f, row(words, f.len(), at))
-}
+    ghost next_gives = { YieldsFirstRef (λ r. rows r.width r.left r.words.now) };
 
-// Whether a row covers f.
-pub(crate) fn covered(words: &[u64], count: usize, f: &[u64]) -> bool
-    requires { length f.now * count ≤ length words.now }
-    ensures { result ≡ any_covers (rows (length f.now) count words.now) f.now }
-{
-    for i in 0..count {
-        if in_place::covers(row(words, f.len(), i), f) {
-            return true;
+    ghost remaining = { item_count (λ r. rows r.width r.left r.words.now) };
+
+    fn next(&mut self) -> Option<&'a [u64]> {
+        if self.left == 0 {
+            return None;
         }
+        let (row, rest) = self.words.split_at(self.width);
+        self.words = rest;
+        self.left -= 1;
+        Some(row)
     }
-    false
-}
-
-// Whether a row matches the notice.
-pub(crate) fn matched(words: &[u64], count: usize, width: usize, notice: &[u64]) -> bool
-    requires { width * count ≤ length words.now }
-    ensures { result ≡ any_matches (rows width count words.now) notice.now }
-{
-    for i in 0..count {
-        if in_place::matches(row(words, width, i), notice) {
-            return true;
-        }
-    }
-    false
-}
-
-// Copies n words from a place to one before it.
-fn copy_down(words: &mut [u64], from: usize, to: usize, n: usize)
-    requires { (to ≤ from) × (from + n ≤ length words.old) }
-    ensures { words.new ≡ paste words.old to (drop from words.old) n }
-{
-    for j in 0..n {
-        words[to + j] = words[from + j];
-    }
-}
-
-// Sets the words from one place to another to zero.
-fn blank(words: &mut [u64], from: usize, to: usize)
-    requires { (from ≤ to) × (to ≤ length words.old) }
-    ensures { words.new ≡ put_mid from (to - from) words.old (replicate (to - from) 0) }
-{
-    words[from..to].fill(0);
-}
-
-// Keeps the rows that f does not cover, blanks what they free, and says how many are left.
-pub(crate) fn keep_outside(words: &mut [u64], count: usize, f: &[u64]) -> usize
-    requires { length f.now * count ≤ length words.old }
-    ensures counted { result ≡ length (outside f.now (rows (length f.now) count words.old)) }
-    ensures within { result ≤ count }
-    ensures words { words.new ≡ written (outside f.now (rows (length f.now) count words.old)) ++ (replicate (length f.now * count - length f.now * result) 0 ++ drop (length f.now * count) words.old) }
-{
-    let width = f.len();
-    let mut left = 0;
-    for i in 0..count {
-        if !in_place::covers(f, row(words, width, i)) {
-            copy_down(words, width * i, width * left, width);
-            left += 1;
-        }
-    }
-    blank(words, width * left, width * count);
-    left
-}
-
-// Writes the rows that the others lack into other words, from their start, and says how many they are.
-pub(crate) fn difference(
-    words: &[u64],
-    count: usize,
-    others: &[u64],
-    other_count: usize,
-    width: usize,
-    out: &mut [u64],
-) -> usize
-    requires rows { width * count ≤ length words.now }
-    requires others { width * other_count ≤ length others.now }
-    requires room { width * count ≤ length out.old }
-    ensures counted { result ≡ length (minus (rows width count words.now) (rows width other_count others.now)) }
-    ensures within { result ≤ count }
-    ensures words { out.new ≡ written (minus (rows width count words.now) (rows width other_count others.now)) ++ drop (width * result) out.old }
-{
-    let mut new = 0;
-    for i in 0..count {
-        let next = row(words, width, i);
-        if !has(others, other_count, next) {
-            write_row(out, width, new, next);
-            new += 1;
-        }
-    }
-    new
-}
-
-// Writes a row at a place.
-fn write_row(words: &mut [u64], width: usize, at: usize, f: &[u64])
-    requires { (length f.now ≡ width) × (width * at + width ≤ length words.old) }
-    ensures { words.new ≡ put_mid (width * at) width words.old f.now }
-{
-    words[width * at..width * at + width].copy_from_slice(f);
-}
-
-// Puts f in at a word; the words from there to the end move up by its length.
-fn shift_in(words: &mut [u64], at: usize, end: usize, f: &[u64])
-    requires { (at ≤ end) × (end + length f.now ≤ length words.old) }
-    ensures { words.new ≡ take at words.old ++ (f.now ++ (slice_range words.old at end ++ drop (end + length f.now) words.old)) }
-{
-    words[at..end + f.len()].rotate_right(f.len());
-    words[at..at + f.len()].copy_from_slice(f);
-}
-
-// Takes n words out at a word; the words past them to the end move down, and the last n are blank.
-fn shift_out(words: &mut [u64], at: usize, end: usize, n: usize)
-    requires { (at + n ≤ end) × (end ≤ length words.old) }
-    ensures { words.new ≡ take at words.old ++ (take (end - (at + n)) (drop (at + n) words.old) ++ (replicate n 0 ++ drop end words.old)) }
-{
-    words[at..end].rotate_left(n);
-    words[end - n..end].fill(0);
-}
-
-// Puts f in at a place; the rows from there on move up by one.
-pub(crate) fn open(words: &mut [u64], count: usize, at: usize, f: &[u64])
-    requires { (at ≤ count) × (length f.now * count + length f.now ≤ length words.old) }
-    ensures { words.new ≡ written (insert (rows (length f.now) count words.old) at f.now) ++ drop (length f.now * count + length f.now) words.old }
-{
-    let start = f.len() * at;
-    let end = f.len() * count;
-    shift_in(words, start, end, f);
-}
-
-// Takes the row at a place out; the rows past it move down by one, and the last is blank.
-pub(crate) fn close(words: &mut [u64], width: usize, count: usize, at: usize)
-    requires { (at < count) × (width * count ≤ length words.old) }
-    ensures { words.new ≡ written (remove (rows width count words.old) at) ++ (replicate width 0 ++ drop (width * count) words.old) }
-{
-    let start = width * at;
-    let end = width * count;
-    shift_out(words, start, end, width);
 }

@@ -1,37 +1,11 @@
 // Tables of filters in lent words: a count, then the filters, in order and each once, each as wide as the filter that is handed in; words that are
-// not in use are zero. Each function says all words of the table afterwards, whatever it held.
-ghost use Rattle.std.specs.Prelude.{◌≡◌, ◌+◌, ◌*◌, ◌<◌, ◌≤◌, ◌++◌, length, drop, if◌then◌else◌, Some, None, slice_index};
-ghost use Rattle.filter.specs.Filter.{same};
-ghost use Rattle.cover.specs.Maximal.{among, put, without, outside, insert, maximal, minus, any_covers, any_matches};
-ghost use Rattle.cover.specs.Table.{Whole, RoomForOne, rows, held, changed, first, written, laid, inserted_all};
+// not in use are zero. Each function says all words of the table afterwards, whatever it held. What a table holds is asked of its rows.
+ghost use Rattle.std.specs.Prelude.{◌≡◌, ◌+◌, ◌*◌, ◌<◌, ◌≤◌, length, slice_index};
+ghost use Rattle.cover.specs.Maximal.{put, without, outside, insert, maximal};
+ghost use Rattle.cover.specs.Table.{Whole, RoomForOne, changed, laid, inserted_all};
+ghost use Rattle.cover.specs.Rows.{listed};
 
-use crate::rows;
-
-// The place of f in the table, if it is there.
-pub fn find(table: &[u64], f: &[u64]) -> Option<usize>
-    requires { Whole (length f.now) table.now }
-    ensures { result ≡ (if among f.now (held (length f.now) table.now) then Some (first (λ g. same f.now g) (held (length f.now) table.now)) else None) }
-{
-    let count = table[0] as usize;
-    let at = rows::find(&table[1..], count, f);
-    if at < count { Some(at) } else { None }
-}
-
-// Whether a filter of the table matches the notice.
-pub fn matches(table: &[u64], width: usize, notice: &[u64]) -> bool
-    requires { Whole width table.now }
-    ensures { result ≡ any_matches (held width table.now) notice.now }
-{
-    rows::matched(&table[1..], table[0] as usize, width, notice)
-}
-
-// Whether a filter of the table covers f.
-pub fn covers(table: &[u64], f: &[u64]) -> bool
-    requires { Whole (length f.now) table.now }
-    ensures { result ≡ any_covers (held (length f.now) table.now) f.now }
-{
-    rows::covered(&table[1..], table[0] as usize, f)
-}
+use crate::{Rows, moving};
 
 // Puts f in its place, unless it is there.
 pub fn put(table: &mut [u64], f: &[u64])
@@ -40,12 +14,10 @@ pub fn put(table: &mut [u64], f: &[u64])
     ensures { table.new ≡ changed (length f.now) (put f.now) table.old }
 {
     let count = table[0] as usize;
-    let at = rows::place(&table[1..], count, f);
-    if rows::stands(&table[1..], count, at, f) {
-        return;
+    if let Err(at) = Rows::counted(table, f.len()).search(f) {
+        moving::open(&mut table[1..], count, at, f);
+        table[0] += 1;
     }
-    rows::open(&mut table[1..], count, at, f);
-    table[0] += 1;
 }
 
 // Takes f out of the table, if it is there.
@@ -54,9 +26,8 @@ pub fn take_out(table: &mut [u64], f: &[u64])
     ensures { table.new ≡ changed (length f.now) (without f.now) table.old }
 {
     let count = table[0] as usize;
-    let at = rows::find(&table[1..], count, f);
-    if at < count {
-        rows::close(&mut table[1..], f.len(), count, at);
+    if let Some(at) = Rows::counted(table, f.len()).index_of(f) {
+        moving::close(&mut table[1..], f.len(), count, at);
         table[0] -= 1;
     }
 }
@@ -67,7 +38,7 @@ fn take_covered(table: &mut [u64], f: &[u64])
     ensures { table.new ≡ changed (length f.now) (outside f.now) table.old }
 {
     let count = table[0] as usize;
-    let left = rows::keep_outside(&mut table[1..], count, f);
+    let left = moving::keep_outside(&mut table[1..], count, f);
     table[0] = left as u64;
 }
 
@@ -77,52 +48,30 @@ pub fn insert(table: &mut [u64], f: &[u64])
     requires room { RoomForOne (length f.now) table.old }
     ensures { table.new ≡ changed (length f.now) (insert f.now) table.old }
 {
-    if covers(table, f) {
+    if Rows::counted(table, f.len()).covers(f) {
         return;
     }
     take_covered(table, f);
     put(table, f);
 }
 
-// Inserts the first filters of a list, one after the other.
-pub fn insert_all(table: &mut [u64], list: &[u64], count: usize, width: usize)
-    requires wide { 0 < width }
-    requires within { width * count ≤ length list.now }
-    requires room { 1 + width * (slice_index table.old 0 + count) ≤ length table.old }
-    ensures { table.new ≡ inserted_all width (rows width count list.now) table.old }
+// Inserts the filters of a list, one after the other.
+pub fn insert_all(table: &mut [u64], list: Rows<'_>)
+    requires wide { 0 < list.width }
+    requires room { 1 + list.width * (slice_index table.old 0 + list.left) ≤ length table.old }
+    ensures { table.new ≡ inserted_all list.entry.width (listed list.entry) table.old }
 {
-    for i in 0..count {
-        insert(table, rows::row(list, width, i));
+    for filter in list {
+        insert(table, filter);
     }
 }
 
-// The table of the maximal filters of the first ones of a list, whatever the table held.
-pub fn maximal(table: &mut [u64], list: &[u64], count: usize, width: usize)
-    requires wide { 0 < width }
-    requires within { width * count ≤ length list.now }
-    requires room { 1 + width * count ≤ length table.old }
-    ensures { table.new ≡ laid width (length table.old) (maximal (rows width count list.now)) }
+// The table of the maximal filters of a list, whatever the table held.
+pub fn maximal(table: &mut [u64], list: Rows<'_>)
+    requires wide { 0 < list.width }
+    requires room { 1 + list.width * list.left ≤ length table.old }
+    ensures { table.new ≡ laid list.entry.width (length table.old) (maximal (listed list.entry)) }
 {
     table.fill(0);
-    insert_all(table, list, count, width);
-}
-
-// Writes the filters of the table that the other lacks into other words, from their start, and says how many they are: what is new from the
-// other to this one, and what is no more from this one to the other.
-pub fn minus(table: &[u64], other: &[u64], width: usize, out: &mut [u64]) -> usize
-    requires rows { Whole width table.now }
-    requires others { Whole width other.now }
-    requires room { width * slice_index table.now 0 ≤ length out.old }
-    ensures counted { result ≡ length (minus (held width table.now) (held width other.now)) }
-    ensures within { result ≤ slice_index table.now 0 }
-    ensures words { out.new ≡ written (minus (held width table.now) (held width other.now)) ++ drop (width * result) out.old }
-{
-    rows::difference(
-        &table[1..],
-        table[0] as usize,
-        &other[1..],
-        other[0] as usize,
-        width,
-        out,
-    )
+    insert_all(table, list);
 }

@@ -1,30 +1,25 @@
 // The entry that finds what one broker has to announce to another, given all filters that it knows but from that one, and what it announced last.
-ghost use Rattle.std.specs.Prelude.{◌≡◌, ◌+◌, ◌*◌, ◌<◌, ◌≤◌, ◌∷◌, ◌++◌, length, take, drop, if◌then◌else◌, slice_index};
+ghost use Rattle.std.specs.Prelude.{◌≡◌, ◌+◌, ◌*◌, ◌<◌, ◌≤◌, ◌∷◌, ◌++◌, length, take, drop, Some, None, MatchResult, slice_index};
 ghost use Rattle.cover.specs.Maximal.{minus};
 ghost use Rattle.cover.specs.Table.{Whole, held, written};
-ghost use Rattle.cover.specs.Entry.{TellSays, known_whole, said_whole, refusal};
+ghost use Rattle.cover.specs.Rows.{listed};
+ghost use Rattle.cover.specs.Entry.{TellSays, known_whole, said_whole, unfit};
 
-use crate::table;
+use crate::{Rows, table};
 
-#[derive(Clone, Copy, PartialEq, Debug)]
-pub enum Reply {
-    // How many filters are added or cut.
-    Done(u64),
-    // The number of the refusal.
-    Refused(u64),
+// Why nothing was told.
+#[derive(Clone, Copy, PartialEq, Eq, Debug)]
+pub enum Unfit {
+    // Of the filters that are known a count is out of bounds, or not all are there.
+    Known,
+    // Of the filters announced last likewise, or there is no room for as many as there can be.
+    Said,
+    // There is no room for as many changes as there can be.
+    Mail,
 }
 
-// Words for the largest table: a count and 1,024 filters of 8 pairs.
-#[derive(Drop)]
-struct Work {
-    words: [u64; 16385],
-}
-
-fn empty_work() -> Work
-    ensures { length result.words ≡ 16385 }
-{
-    Work { words: [0; 16385] }
-}
+// How many words the largest table takes: a count and 1,024 filters of 8 pairs.
+const LARGEST: usize = 16385;
 
 // Whether the count of pairs is from 1 to 8, and the filters, at most 1,024, are all there.
 fn known_whole(known: &[u64]) -> bool
@@ -47,42 +42,44 @@ fn said_whole(known: &[u64], said: &[u64]) -> bool
     1 + 2 * known[0] * said[0] <= said.len() as u64
 }
 
-// Whether the rows are whole, and there is room.
-fn accepted(known: &[u64], said: &[u64], mail: &[u64]) -> bool
-    ensures { refusal known.now said.now mail.now ≡ (if result then 0 else 1) }
+// Whether the rows are whole, and there is room: the first that is unfit, if one is.
+fn check(known: &[u64], said: &[u64], mail: &[u64]) -> Result<(), Unfit>
+    ensures { MatchResult result
+        (λ _. unfit known.now said.now mail.now ≡ None)
+        (λ why. unfit known.now said.now mail.now ≡ Some why) }
 {
     if !known_whole(known) {
-        return false;
+        return Err(Unfit::Known);
     }
-    if !said_whole(known, said) || said.len() < 16385 {
-        return false;
+    if !said_whole(known, said) || said.len() < LARGEST {
+        return Err(Unfit::Said);
     }
-    mail.len() >= 32770
+    if mail.len() < 2 * LARGEST {
+        return Err(Unfit::Mail);
+    }
+    Ok(())
 }
 
-// Writes the filters of a table that the other lacks, from a place on, and says how many they are.
-fn write_missing(table: &[u64], other: &[u64], width: usize, mail: &mut [u64], at: usize) -> usize
-    requires rows { Whole width table.now }
-    requires others { Whole width other.now }
-    requires room { at + width * slice_index table.now 0 ≤ length mail.old }
-    ensures counted { result ≡ length (minus (held width table.now) (held width other.now)) }
-    ensures within { result ≤ slice_index table.now 0 }
-    ensures words { mail.new ≡ take at mail.old ++ (written (minus (held width table.now) (held width other.now)) ++ drop (at + width * result) mail.old) }
+// Writes the filters that the others lack, from a place on, and says how many they are.
+fn write_missing(filters: Rows<'_>, others: Rows<'_>, mail: &mut [u64], at: usize) -> usize
+    requires { at + filters.width * filters.left ≤ length mail.old }
+    ensures counted { result ≡ length (minus (listed filters.entry) (listed others.entry)) }
+    ensures within { result ≤ filters.entry.left }
+    ensures words { mail.new ≡ take at mail.old ++ (written (minus (listed filters.entry) (listed others.entry)) ++ drop (at + filters.entry.width * result) mail.old) }
 {
-    table::minus(table, other, width, &mut mail[at..])
+    filters.minus(others, &mut mail[at..])
 }
 
 // Writes what is new and what is no more from one table to another: the count of each, and the filters. Says how many they are.
-fn write_changes(old: &[u64], new: &[u64], width: usize, mail: &mut [u64]) -> usize
-    requires olds { Whole width old.now }
-    requires news { Whole width new.now }
-    requires room { 2 + (width * slice_index new.now 0 + width * slice_index old.now 0) ≤ length mail.old }
-    requires few { slice_index new.now 0 + slice_index old.now 0 < 65536 }
-    ensures counted { result ≡ length (minus (held width new.now) (held width old.now)) + length (minus (held width old.now) (held width new.now)) }
-    ensures words { mail.new ≡ length (minus (held width new.now) (held width old.now)) ∷ (length (minus (held width old.now) (held width new.now)) ∷ (written (minus (held width new.now) (held width old.now)) ++ (written (minus (held width old.now) (held width new.now)) ++ drop (2 + width * result) mail.old))) }
+fn write_changes(old: Rows<'_>, new: Rows<'_>, mail: &mut [u64]) -> usize
+    requires wide { old.width ≡ new.width }
+    requires room { 2 + (new.width * new.left + new.width * old.left) ≤ length mail.old }
+    requires few { new.left + old.left < 65536 }
+    ensures counted { result ≡ length (minus (listed new.entry) (listed old.entry)) + length (minus (listed old.entry) (listed new.entry)) }
+    ensures words { mail.new ≡ length (minus (listed new.entry) (listed old.entry)) ∷ (length (minus (listed old.entry) (listed new.entry)) ∷ (written (minus (listed new.entry) (listed old.entry)) ++ (written (minus (listed old.entry) (listed new.entry)) ++ drop (2 + new.entry.width * result) mail.old))) }
 {
-    let more = write_missing(new, old, width, mail, 2);
-    let less = write_missing(old, new, width, mail, 2 + width * more);
+    let more = write_missing(new, old, mail, 2);
+    let less = write_missing(old, new, mail, 2 + new.width * more);
     mail[0] = more as u64;
     mail[1] = less as u64;
     more + less
@@ -99,18 +96,18 @@ fn write_over(said: &mut [u64], new: &[u64], width: usize)
 }
 
 // What has to be announced now stands in `said` afterwards, and in `mail` how many filters are to be added and how many cut, and these, in order.
-// `known` begins with the count of pairs and the count of filters, `said` with the count of filters last announced. Refused with 1, and nothing
-// changed, where a count is out of bounds or a row too short.
-pub fn tell(known: &[u64], said: &mut [u64], mail: &mut [u64]) -> Reply
-    ensures { TellSays known.now said.old mail.old (refusal known.now said.old mail.old) result said.new mail.new }
+// `known` begins with the count of pairs and the count of filters, `said` with the count of filters last announced. Says how many filters are added
+// or cut. Where a count is out of bounds or a row too short, the first such is named, and nothing has changed.
+pub fn tell(known: &[u64], said: &mut [u64], mail: &mut [u64]) -> Result<usize, Unfit>
+    ensures { TellSays known.now said.old mail.old (unfit known.now said.old mail.old) result said.new mail.new }
 {
-    if !accepted(known, said, mail) {
-        return Reply::Refused(1);
-    }
+    check(known, said, mail)?;
     let width = 2 * known[0] as usize;
-    let mut new = empty_work();
-    table::maximal(&mut new.words, &known[2..], known[1] as usize, width);
-    let changes = write_changes(said, &new.words, width, mail);
-    write_over(said, &new.words, width);
-    Reply::Done(changes as u64)
+    let mut new = [0; LARGEST];
+    let list = Rows::new(&known[2..], width, known[1] as usize);
+    table::maximal(&mut new, list);
+    let told = Rows::counted(said, width);
+    let changes = write_changes(told, Rows::counted(&new, width), mail);
+    write_over(said, &new, width);
+    Ok(changes)
 }

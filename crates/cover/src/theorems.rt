@@ -1,74 +1,50 @@
 // The laws of maximal filters and of the differences between tables, each demanded by a function's contract.
 ghost use Rattle.cover.specs.Laws.{MaximalMembers, SortedByMembers, MaximalAntichain, MaximalCover, MaximalMatch, MaximalByMembers, MaximalOfPart, MaximalByInsert, OneChange, ReplayLeads, BetweenKeeps, TablesLaid};
 
-pub fn maximal_members_stands() -> u8
+pub fn maximal_members_stands()
     ensures { MaximalMembers }
-{
-    0
-}
+{}
 
-pub fn sorted_by_members_stands() -> u8
+pub fn sorted_by_members_stands()
     ensures { SortedByMembers }
-{
-    0
-}
+{}
 
-pub fn maximal_antichain_stands() -> u8
+pub fn maximal_antichain_stands()
     ensures { MaximalAntichain }
-{
-    0
-}
+{}
 
-pub fn maximal_cover_stands() -> u8
+pub fn maximal_cover_stands()
     ensures { MaximalCover }
-{
-    0
-}
+{}
 
-pub fn maximal_match_stands() -> u8
+pub fn maximal_match_stands()
     ensures { MaximalMatch }
-{
-    0
-}
+{}
 
-pub fn maximal_by_members_stands() -> u8
+pub fn maximal_by_members_stands()
     ensures { MaximalByMembers }
-{
-    0
-}
+{}
 
-pub fn maximal_of_part_stands() -> u8
+pub fn maximal_of_part_stands()
     ensures { MaximalOfPart }
-{
-    0
-}
+{}
 
-pub fn maximal_by_insert_stands() -> u8
+pub fn maximal_by_insert_stands()
     ensures { MaximalByInsert }
-{
-    0
-}
+{}
 
-pub fn one_change_stands() -> u8
+pub fn one_change_stands()
     ensures { OneChange }
-{
-    0
-}
+{}
 
-pub fn replay_leads_stands() -> u8
+pub fn replay_leads_stands()
     ensures { ReplayLeads }
-{
-    0
-}
+{}
 
-pub fn between_keeps_stands() -> u8
+pub fn between_keeps_stands()
     ensures { BetweenKeeps }
-{
-    0
-}
+{}
 
-pub fn tables_laid_stands() -> u8
+pub fn tables_laid_stands()
     ensures { TablesLaid }
-{
-    0
-}
+{}

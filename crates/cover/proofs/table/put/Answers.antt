@@ -1,37 +1,28 @@
-use Rattle.std.proofs.Common.{◌≡◌, ◌+◌, ◌*◌, true, false, not, ◌&&◌, ltb, [], ◌++◌, length, get_or, drop, sym, ap, ◌∙◌, arith}
+use Rattle.std.proofs.Common.{◌≡◌, ◌+◌, ◌*◌, ◌++◌, length, get_or, drop, sym, ap, ◌∙◌, arith}
 use Rattle.std.specs.List.{insert}
 use Rattle.std.proofs.lemmas.List.{take_rest, length-drop}
-use Rattle.filter.specs.Filter.{same, before}
-use Rattle.cover.specs.Table.{held, stored, first, written}
-use Rattle.cover.proofs.RowLaws.{first_within}
-use Rattle.cover.proofs.TableLaws.{held_part, length_held, stored_same, stored_inserted, put_stands, put_opens}
+use Rattle.cover.specs.Table.{held, stored, found, written}
+use Rattle.cover.proofs.RowLaws.{found_ok, found_err}
+use Rattle.cover.proofs.TableLaws.{held_part, length_held, stored_same, stored_inserted}
 use Rattle.cover.proofs.table.put.Goals as goal
-
-pub returns-then-stands : goal.returns-then-stands
-returns-then-stands c =
-    let p = held_part (length c.args.f.now) c.args.table.now in
-    let e : c.place-at.result ≡ first (λ g. not (before g c.args.f.now)) (held (length c.args.f.now) c.args.table.now) = rw p at c.place-at.ensures in
-    let s : (ltb c.place-at.result (get_or c.args.table.now 0 0) && same c.args.f.now (get_or (held (length c.args.f.now) c.args.table.now) c.place-at.result [])) ≡ true = rw p at (sym c.if-stands.ensures) in
-    let q = put_stands c.args.f.now (held (length c.args.f.now) c.args.table.now) c.place-at.result (get_or c.args.table.now 0 0) (length_held (length c.args.f.now) c.args.table.now) e s in
-    sym (ap (λ fs. stored (length c.args.f.now) fs c.args.table.now) q ∙ stored_same (length c.args.f.now) c.args.table.now (omega arith))
 
 pub open-requires : goal.open-requires
 open-requires c =
-    let p = held_part (length c.args.f.now) c.args.table.now in
-    let e : c.place-at.result ≡ first (λ g. not (before g c.args.f.now)) (held (length c.args.f.now) c.args.table.now) = rw p at c.place-at.ensures in
-    let b = first_within (λ g. not (before g c.args.f.now)) (held (length c.args.f.now) c.args.table.now) in
+    let p = found_err c.args.f.now (held (length c.args.f.now) c.args.table.now) c.in-Err.at (sym c.in-Err.is ∙ (c.search.ensures ∙ ap (found c.args.f.now) c.counted.ensures.rows)) in
     let l = length_held (length c.args.f.now) c.args.table.now in
-    (omega arith, simp (take_rest, length-drop) (omega (arith, c.requires.room)))
+    (omega (arith, p.1), simp (take_rest, length-drop) (omega (arith, c.requires.room)))
 
-pub returns : goal.returns
-returns c =
-    let p = held_part (length c.args.f.now) c.args.table.now in
-    let e : c.place-at.result ≡ first (λ g. not (before g c.args.f.now)) (held (length c.args.f.now) c.args.table.now) = rw p at c.place-at.ensures in
-    let s : (ltb c.place-at.result (get_or c.args.table.now 0 0) && same c.args.f.now (get_or (held (length c.args.f.now) c.args.table.now) c.place-at.result [])) ≡ false = rw p at (sym c.if-stands.ensures) in
-    let q = put_opens c.args.f.now (held (length c.args.f.now) c.args.table.now) c.place-at.result (get_or c.args.table.now 0 0) (length_held (length c.args.f.now) c.args.table.now) e s in
-    let b = first_within (λ g. not (before g c.args.f.now)) (held (length c.args.f.now) c.args.table.now) in
+pub returns-in-Err : goal.returns-in-Err
+returns-in-Err c =
+    let h = held_part (length c.args.f.now) c.args.table.now in
+    let p = found_err c.args.f.now (held (length c.args.f.now) c.args.table.now) c.in-Err.at (sym c.in-Err.is ∙ (c.search.ensures ∙ ap (found c.args.f.now) c.counted.ensures.rows)) in
     let l = length_held (length c.args.f.now) c.args.table.now in
-    let y : c.open.new.words ≡ written (insert (held (length c.args.f.now) c.args.table.now) c.place-at.result c.args.f.now) ++ drop (length c.args.f.now * get_or c.args.table.now 0 0 + length c.args.f.now) (drop 1 c.args.table.now) =
-    rw (p, take_rest) at c.open.ensures in
-    stored_inserted (length c.args.f.now) c.args.table.now c.open.new.words c.place-at.result c.args.f.now (omega arith) (omega arith) y
-    ∙ ap (λ fs. stored (length c.args.f.now) fs c.args.table.now) (sym q)
+    let y : c.open.new.words ≡ written (insert (held (length c.args.f.now) c.args.table.now) c.in-Err.at c.args.f.now) ++ drop (length c.args.f.now * get_or c.args.table.now 0 0 + length c.args.f.now) (drop 1 c.args.table.now) =
+    rw (h, take_rest) at c.open.ensures in
+    stored_inserted (length c.args.f.now) c.args.table.now c.open.new.words c.in-Err.at c.args.f.now (omega arith) (omega (arith, p.1)) y
+    ∙ ap (λ fs. stored (length c.args.f.now) fs c.args.table.now) (sym p.0)
+
+pub returns-in_default : goal.returns-in_default
+returns-in_default c =
+    let p = found_ok c.args.f.now (held (length c.args.f.now) c.args.table.now) c.in_default.field-0 (sym c.in_default.is ∙ (c.search.ensures ∙ ap (found c.args.f.now) c.counted.ensures.rows)) in
+    sym (ap (λ fs. stored (length c.args.f.now) fs c.args.table.now) p ∙ stored_same (length c.args.f.now) c.args.table.now (omega arith))
