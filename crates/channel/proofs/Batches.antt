@@ -1,9 +1,13 @@
 -- A batch of messages: the words of each, and the rows that a channel holds after all were appended.
-use Rattle.std.proofs.Common.{◌≡◌, ℕ, zero, suc, ◌+◌, ◌*◌, ◌<◌, ◌≤◌, List, [], ◌∷◌, ◌++◌, map, length, take, drop, replicate, refl, ap, ◌∙◌, mul-suc, arith}
-use Rattle.std.proofs.lemmas.List.{append-nil, append_assoc, drop-map, drop_all, length-map, length-drop, length_push, length-take-le, take_at, take-take}
-use Rattle.filter.specs.Filter.{padded}
+use Rattle.std.proofs.Common.{◌≡◌, ℕ, zero, suc, ◌+◌, ◌*◌, ◌≤◌, List, [], ◌∷◌, ◌++◌, map, length, take, drop, replicate, Bool, true, false, cond, ltb, Result, Ok, Err, is_ok, true≢false, sym, ap, refl, subst, ◌∙◌, mul-suc, arith}
+use Rattle.std.proofs.lemmas.List.{append-nil, append_assoc, length-map, length-drop, length_push, length-take-le, take_at, take-take}
+use Rattle.filter.specs.Filter.{Filter, padded}
 use Rattle.cover.specs.Table.{rows}
-use Rattle.cover.proofs.RowLaws.{length_rows, rows_more}
+use Rattle.cover.specs.Rows.{listed}
+use Rattle.cover.specs.declared.rows.Rows.{Rows}
+use Rattle.cover.proofs.RowLaws.{length_rows}
+use Rattle.std.proofs.lemmas.Bool.Decides.{nat_tests}
+use Rattle.channel.specs.declared.ring.Full.{Full}
 use Rattle.channel.specs.declared.batch.Change.{Change}
 use Rattle.channel.specs.declared.batch.Change.TheVariants.{Add, Cut}
 use Rattle.channel.specs.Ring.{Row, Wide, Holds, appended, appended_all}
@@ -20,10 +24,6 @@ pub length_told : (change : Change) (f : List ℕ) → length (told change f) �
 length_told Add f = omega arith
 length_told Cut f = omega arith
 
-pub length_all_told : (change : Change) (m n : ℕ) (fs : List ℕ) → length (all_told change m n fs) ≡ n
-unfolding all_told
-length_all_told change m n fs = length-map (rows (2 * m) n fs) (told change) ∙ length_rows (2 * m) n fs
-
 wide_rows : (change : Change) (w n : ℕ) (xs : List ℕ) → w * n ≤ length xs → Wide (2 + w) (map (told change) (rows w n xs))
 unfolding rows
 wide_rows change w zero xs h = tt
@@ -33,30 +33,30 @@ wide_rows change w (suc n) xs h =
     let t = length_told change (take w xs) in
     (omega arith, wide_rows change w n (drop w xs) (omega (arith, length-drop w xs)))
 
-pub wide_told : (change : Change) (m n : ℕ) (fs : List ℕ) → 2 * m * n ≤ length fs → Wide (2 + 2 * m) (all_told change m n fs)
-unfolding all_told
-wide_told change m n fs h = wide_rows change (2 * m) n fs h
+-- the messages for the filters of rows: as wide as a slot, and as many as there are
+pub wide_told : (change : Change) (m : ℕ) (r : Rows) → r.width ≡ 2 * m → Wide (2 + 2 * m) (all_told change (listed r))
+wide_told change m r e = subst (λ w. Wide (2 + w) (all_told change (listed r))) e (wide_rows change r.width r.left r.words.now r.there)
 
-all_told_more : (change : Change) (m n : ℕ) (fs : List ℕ) (i : ℕ) → i < n →
-    drop i (all_told change m n fs) ≡ told change (take (2 * m) (drop (2 * m * i) fs)) ∷ drop (i + 1) (all_told change m n fs)
-unfolding all_told
-all_told_more change m n fs i h =
-    let r = rows_more (2 * m) n fs i h in
-    let a = drop-map (told change) i (rows (2 * m) n fs) in
-    let b = drop-map (told change) (i + 1) (rows (2 * m) n fs) in
-    rw (a, b, r) refl
+pub length_all_told : (change : Change) (r : Rows) → length (all_told change (listed r)) ≡ r.left
+length_all_told change r = length-map (listed r) (told change) ∙ length_rows r.width r.left r.words.now
 
--- one message more, and at the end
-pub appended_more : (room w : ℕ) (change : Change) (m n : ℕ) (fs ws : List ℕ) (i : ℕ) → i < n →
-    appended_all room w (drop i (all_told change m n fs)) ws
-    ≡ appended_all room w (drop (i + 1) (all_told change m n fs)) (appended room w (told change (take (2 * m) (drop (2 * m * i) fs))) ws)
+-- a channel that refuses is full
+pub refuses_full : (n room : ℕ) (r : Result (Unit {0}) Full) → r ≡ cond (ltb n room) (Ok tt) (Err (record {})) → is_ok r ≡ false → room ≤ n
+refuses_full n room r h e = go (ltb n room) refl h
+  where
+    go : (b : Bool) → ltb n room ≡ b → r ≡ cond b (Ok tt) (Err (record {})) → room ≤ n
+    go true q g = absurd (true≢false (sym (ap is_ok g) ∙ e))
+    go false q g = grind (arith, nat_tests)
+
+-- the first message of a batch appended, and the others then
+pub appended_next : (room w : ℕ) (change : Change) (f : Filter) (rest left : List Filter) (ws : List ℕ) → left ≡ f ∷ rest →
+    appended_all room w (all_told change rest) (appended room w (told change f) ws) ≡ appended_all room w (all_told change left) ws
 unfolding appended_all
-appended_more room w change m n fs ws i h = ap (λ xs. appended_all room w xs ws) (all_told_more change m n fs i h)
+appended_next room w change f rest left ws e = rw e refl
 
-pub appended_done : (room w : ℕ) (change : Change) (m n : ℕ) (fs ws : List ℕ) (i : ℕ) → n ≤ i → appended_all room w (drop i (all_told change m n fs)) ws ≡ ws
+pub appended_none : (room w : ℕ) (change : Change) (left : List Filter) (ws : List ℕ) → left ≡ [] → ws ≡ appended_all room w (all_told change left) ws
 unfolding appended_all
-appended_done room w change m n fs ws i h =
-    ap (λ xs. appended_all room w xs ws) (drop_all i (all_told change m n fs) (omega (arith, length_all_told change m n fs)))
+appended_none room w change left ws e = rw e refl
 
 pub appended_all_holds : (room w b : ℕ) (ys xs : List Row) (ws : List ℕ) → Holds room w b xs ws → Wide w ys → length xs + length ys ≤ room →
     Holds room w b (xs ++ ys) (appended_all room w ys ws)

@@ -5,8 +5,16 @@ ghost use Rattle.channel.specs.Message.{words, message};
 
 use filter::{Filter, Notice};
 
+// The kinds of message, as the first word of a slot says them; a slot of any other kind is read as a notice. Constants and no enum of kinds: here
+// alone a word becomes a message and a message words, and `Message` is the enum.
+const ADD: u64 = 1;
+
+const CUT: u64 = 2;
+
+const NOTICE: u64 = 3;
+
 // A filter more, a filter less, or a notice with its number.
-#[derive(Clone, Copy, Debug)]
+#[derive(Clone, Copy, Debug, PartialEq, Eq)]
 pub enum Message {
     Add(Filter),
     Cut(Filter),
@@ -20,9 +28,9 @@ impl Message {
         ensures { slot.new ≡ words m self }
     {
         match self {
-            Message::Add(f) => put(slot, 1, 0, &f.bounds[0..2 * m]),
-            Message::Cut(f) => put(slot, 2, 0, &f.bounds[0..2 * m]),
-            Message::Notice { number, notice } => put(slot, 3, number, &notice.numbers[0..m]),
+            Message::Add(f) => put(slot, ADD, 0, &f.bounds[0..2 * m]),
+            Message::Cut(f) => put(slot, CUT, 0, &f.bounds[0..2 * m]),
+            Message::Notice { number, notice } => put(slot, NOTICE, number, &notice.numbers[0..m]),
         }
     }
 
@@ -32,8 +40,8 @@ impl Message {
         ensures { result ≡ message m slot.now }
     {
         match slot[0] {
-            1 => Message::Add(Filter::new(&slot[2..2 + 2 * m])),
-            2 => Message::Cut(Filter::new(&slot[2..2 + 2 * m])),
+            ADD => Message::Add(Filter::new(&slot[2..2 + 2 * m])),
+            CUT => Message::Cut(Filter::new(&slot[2..2 + 2 * m])),
             _ => Message::Notice {
                 number: slot[1],
                 notice: Notice::new(&slot[2..2 + m]),

@@ -1,5 +1,8 @@
 // A channel in lent words: where its ring begins, a count, then `room` slots, each for the words of one message. The oldest message stands where the
 // ring begins, the others follow and go on at the first slot past the last. Unused words are zero.
+//
+// Each call takes m and the room beside the words, and no struct of the two: it would hold that m is at most 8, and every call would still have to
+// ask for the shape of the words.
 ghost use Rattle.std.specs.Prelude.{◌≡◌, ℕ, ◌+◌, ◌-◌, ◌*◌, ◌<◌, ◌≤◌, List, [], ◌∷◌, ◌++◌, length, if◌then◌else◌, Some, None, Ok, Err, nat_eq, nat_lt, slice_index, slice_index_or};
 ghost use Rattle.channel.specs.Message.{words, message as meant};
 ghost use Rattle.channel.specs.Ring.{Row, Holds, Shape, turn, start, row, next, appended, taken};
@@ -8,7 +11,7 @@ use crate::Message;
 use crate::message::clear;
 
 // A channel has no room for one message more.
-#[derive(Clone, Copy, Debug)]
+#[derive(Clone, Copy, Debug, PartialEq, Eq)]
 pub struct Full;
 
 // How many messages are under way.
