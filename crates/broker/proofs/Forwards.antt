@@ -1,73 +1,45 @@
 -- A pass that chooses the neighbours that a notice goes on to.
-use Rattle.std.proofs.Common.{◌≡◌, ℕ, ◌+◌, ◌*◌, ◌<◌, ◌≤◌, Bool, true, false, cond, not, ◌&&◌, ◌||◌, eqb, List, [], ◌∷◌, ◌++◌, length, get_or, take, drop, set, refl, ap, ◌∙◌, add-one, arith}
-use Rattle.std.proofs.lemmas.List.{append-nil, drop-drop, length_push}
+use Rattle.std.proofs.Common.{◌≡◌, ℕ, ◌+◌, ◌<◌, true, false, cond, not, ◌&&◌, ◌||◌, eqb, refl, List, [], ◌∷◌, ◌++◌, map, length, get_or, add-one, arith}
+use Rattle.std.proofs.lemmas.List.{append-nil, get_or-map}
 use Rattle.std.proofs.lemmas.Bool.Decides.{nat_tests}
 use Rattle.filter.specs.Filter.{Filter, Notice, matches}
-use Rattle.filter.proofs.Passes.{push_over}
 use Rattle.cover.specs.Maximal.{any_matches}
-use Rattle.cover.specs.Table.{rows, held}
-use Rattle.cover.proofs.RowLaws.{row_fits, any_matches_more, any_matches_all}
+use Rattle.broker.specs.Announcing.{learned_from, table_at}
 use Rattle.broker.specs.Forwarding.{wanting}
+use Rattle.broker.specs.declared.neighbour.Neighbour.{Neighbour}
 
--- the first j neighbours were gone through, and these were chosen
-pub record Chosen (table : ℕ → List Filter) (ns : List ℕ) (from : ℕ) (e : Notice) (was out : List ℕ) (to j : ℕ) : Type 0 where
-  pub counted : to ≡ length (wanting table ns from e j)
-  pub words : out ≡ wanting table ns from e j ++ drop to was
-  pub behind : to ≤ j
+-- of the first i neighbours those that the notice goes on to
+abbrev pub chosen : (m : ℕ) → List Neighbour → (from : ℕ) → Notice → ℕ → List ℕ
+chosen m ns from e i = wanting (table_at m ns) (map (λ n. n.broker) ns) from e i
 
--- the next neighbour is wanted
-abbrev pub wanted : (ℕ → List Filter) → List ℕ → ℕ → Notice → ℕ → Bool
-wanted table ns from e j = not (eqb (get_or ns j 0) from) && any_matches (table j) e
+-- a pass over a table for a filter that matches, one filter on, and at its end
+pub matches_next : (f : Filter) (rest left : List Filter) (e : Notice) → left ≡ f ∷ rest → any_matches left e ≡ (matches f e || any_matches rest e)
+unfolding any_matches
+matches_next f rest left e h = rw h refl
 
-pub chosen_none : (table : ℕ → List Filter) (ns : List ℕ) (from : ℕ) (e : Notice) (was : List ℕ) → Chosen table ns from e was was 0 0
-unfolding wanting
-chosen_none table ns from e was = record { counted = refl; words = refl; behind = omega arith }
+pub matches_none : (left : List Filter) (e : Notice) → left ≡ [] → any_matches left e ≡ false
+unfolding any_matches
+matches_none left e h = rw h refl
 
-wanting_more : (table : ℕ → List Filter) (ns : List ℕ) (from : ℕ) (e : Notice) (j : ℕ) →
-    wanting table ns from e (j + 1) ≡ wanting table ns from e j ++ cond (wanted table ns from e j) (get_or ns j 0 ∷ []) []
-unfolding wanting
-wanting_more table ns from e j = rw (add-one j)
+module _ (m : ℕ) (ns : List Neighbour) (from : ℕ) (e : Notice) (i : ℕ) (d : Neighbour) (l : i < length ns) where
+  one_more : chosen m ns from e (i + 1) ≡ chosen m ns from e i ++ cond (not (eqb (get_or ns i d).broker from) && any_matches (learned_from m (get_or ns i d)) e) ((get_or ns i d).broker ∷ []) []
+  unfolding wanting
+  one_more = rw (add-one i, get_or-map (λ n. n.broker) ns i d 0 l, get_or-map (learned_from m) ns i d [] l)
 
-pub chosen_skip : (table : ℕ → List Filter) (ns : List ℕ) (from : ℕ) (e : Notice) (was out : List ℕ) (to j : ℕ) → Chosen table ns from e was out to j →
-    wanted table ns from e j ≡ false → Chosen table ns from e was out to (j + 1)
-chosen_skip table ns from e was out to j h w =
-    let a = wanting_more table ns from e j ∙ ap (λ t. wanting table ns from e j ++ cond t (get_or ns j 0 ∷ []) []) w ∙ append-nil (wanting table ns from e j) in
-    record { counted = rw a h.counted; words = rw a h.words; behind = omega (arith, h.behind) }
+  pub chosen_pick : ((get_or ns i d).broker ≡ from → ⊥) → true ≡ any_matches (learned_from m (get_or ns i d)) e →
+      (was new : List ℕ) → was ≡ chosen m ns from e i → new ≡ was ++ (get_or ns i d).broker ∷ [] → new ≡ chosen m ns from e (i + 1)
+  chosen_pick p q was new u v =
+      let o = one_more in
+      grind (arith, nat_tests)
 
-pub chosen_pick : (table : ℕ → List Filter) (ns : List ℕ) (from : ℕ) (e : Notice) (was out : List ℕ) (to j : ℕ) → Chosen table ns from e was out to j →
-    wanted table ns from e j ≡ true → to < length was → Chosen table ns from e was (set out to (get_or ns j 0)) (to + 1) (j + 1)
-chosen_pick table ns from e was out to j h w l =
-    let a = wanting_more table ns from e j ∙ ap (λ t. wanting table ns from e j ++ cond t (get_or ns j 0 ∷ []) []) w in
-    let c = h.counted in
-    let k = length_push (wanting table ns from e j) (get_or ns j 0) in
-    let p = push_over (wanting table ns from e j) was to (get_or ns j 0) c l in
-    let v = h.words in
-    record { counted = rw a (omega arith); words = cc; behind = omega (arith, h.behind) }
+  pub chosen_skip : false ≡ any_matches (learned_from m (get_or ns i d)) e → chosen m ns from e (i + 1) ≡ chosen m ns from e i
+  chosen_skip q =
+      let o = one_more in
+      let a = append-nil (chosen m ns from e i) in
+      grind (arith, nat_tests)
 
--- the end of the i-th row of a table
-pub row_within : (m n i l : ℕ) → i < n → 1 + 2 * m * n ≤ l → 1 + 2 * m * i + 2 * m ≤ l
-row_within m n i l h b =
-    let r = row_fits (2 * m) n i (2 * m * n) h (omega arith) in
-    omega arith
-
--- whether one of the filters from the i-th on matches: that one, or one behind it
-pub matches_next : (m : ℕ) (t : List ℕ) (i : ℕ) (e : Notice) → i < get_or t 0 0 →
-    any_matches (drop i (held (2 * m) t)) e ≡ (matches (take (2 * m) (drop (1 + 2 * m * i) t)) e || any_matches (drop (i + 1) (held (2 * m) t)) e)
-unfolding held
-matches_next m t i e h =
-    let d = drop-drop (2 * m * i) 1 t in
-    any_matches_more e (2 * m) (get_or t 0 0) (drop 1 t) i h ∙ ap (λ xs. matches (take (2 * m) xs) e || any_matches (drop (i + 1) (rows (2 * m) (get_or t 0 0) (drop 1 t))) e) d
-
-pub matches_last : (m : ℕ) (t : List ℕ) (i : ℕ) (e : Notice) → get_or t 0 0 ≤ i → any_matches (drop i (held (2 * m) t)) e ≡ false
-unfolding held
-matches_last m t i e h = any_matches_all e (2 * m) (get_or t 0 0) (drop 1 t) i h
-
--- the tests of a pass: all is what the table as a whole answers, here the filter at hand, rest those behind it
-pub wanted_found : (n from : ℕ) (all here rest : Bool) → (n ≡ from → ⊥) → all ≡ (here || rest) → here ≡ true → (not (eqb n from) && all) ≡ true
-wanted_found n from all here rest d e h = grind (arith, nat_tests)
-
-pub not_yet : (all here rest : Bool) → all ≡ (here || rest) → here ≡ false → rest ≡ all
-not_yet all here rest e h = grind arith
-
-pub and_false : (a b : Bool) → b ≡ false → (a && b) ≡ false
-and_false a b e = grind arith
+  pub chosen_back : (get_or ns i d).broker ≡ from → chosen m ns from e (i + 1) ≡ chosen m ns from e i
+  chosen_back p =
+      let o = one_more in
+      let a = append-nil (chosen m ns from e i) in
+      grind (arith, nat_tests)

@@ -1,5 +1,5 @@
 pub mod Slots
 pub mod Part
-pub mod Forwards
-pub mod Gathered
 pub mod Kept
+pub mod Gathered
+pub mod Forwards

@@ -1,15 +1,15 @@
 -- The subscribers of a part, one slot after the other.
-use Rattle.std.proofs.Common.{◌≡◌, ℕ, suc, ◌+◌, ◌*◌, ◌<◌, ◌≤◌, Bool, true, false, cond, ◌||◌, eqb, ltb, List, [], ◌∷◌, ◌++◌, length, get_or, take, drop, set, Some, None, sym, refl, ap, ◌∙◌, mul-le-mul_left, mul-suc, arith}
-use Rattle.std.specs.List.{remove, AllByRecursion}
-use Rattle.std.proofs.lemmas.List.{drop-drop, drop_all, drop-map, drop_more, length-map, length_push, take_more}
+use Rattle.std.proofs.Common.{◌≡◌, ℕ, suc, ◌+◌, ◌*◌, ◌<◌, ◌≤◌, Bool, true, false, cond, ◌||◌, eqb, ltb, List, [], ◌∷◌, ◌++◌, map, length, get_or, take, drop, Some, None, sym, refl, ap, ◌∙◌, mul-le-mul_left, mul-suc, arith}
+use Rattle.std.specs.List.{position_or_len, remove, AllByRecursion}
+use Rattle.std.proofs.lemmas.List.{drop-map, drop_more, length-map, map-append, take-append-drop}
 use Rattle.std.proofs.lemmas.Bool.Decides.{nat_tests}
 use Rattle.filter.specs.Filter.{Notice, matches}
-use Rattle.filter.proofs.Passes.{push_over}
 use Rattle.cover.specs.Maximal.{insert}
-use Rattle.cover.specs.Table.{rows, held, stored, inserted_all}
-use Rattle.cover.proofs.RowLaws.{rows_more}
-use Rattle.cover.proofs.TableLaws.{length_held}
-use Rattle.broker.specs.Subscribers.{Subscriber, subscriber, subscribers, filters_of, known, filter_of, ahead, dropped, reached}
+use Rattle.cover.specs.Table.{Wide, held, stored, inserted_all}
+use Rattle.cover.proofs.RowLaws.{wide_head, wide_tail}
+use Rattle.cover.proofs.TableLaws.{length_held, wide_held}
+use Rattle.cover.proofs.Keeping.{yet_to_come}
+use Rattle.broker.specs.Subscribers.{Subscriber, subscriber, has_number, Whole, subscribers, filters_of, known, filter_of, ahead, dropped, reached}
 
 -- a slot in use lies within the words
 pub slot_fits : (w n i l : ℕ) → i < n → 1 + w * n ≤ l → 1 + w * i + w ≤ l
@@ -17,30 +17,30 @@ slot_fits w n i l h b =
     let m = mul-le-mul_left w h in
     omega (arith, mul-suc w i)
 
+-- whether a slot begins with a number, by its first word
+pub begins : (n : ℕ) (s : List ℕ) → 0 < length s → has_number n s ≡ eqb (get_or s 0 0) n
+unfolding has_number
+begins n [] h = absurd (omega arith)
+begins n (x ∷ xs) h = refl
+
+pub begins_none : (n : ℕ) (s : List ℕ) → length s ≡ 0 → has_number n s ≡ false
+unfolding has_number
+begins_none n [] h = refl
+begins_none n (x ∷ xs) h = absurd (omega arith)
+
 pub length_subscribers : (m : ℕ) (ws : List ℕ) → length (subscribers m ws) ≡ get_or ws 0 0
 unfolding subscribers
 length_subscribers m ws = length-map (held (1 + 2 * m) ws) subscriber ∙ length_held (1 + 2 * m) ws
 
--- one subscriber more
-pub subscribers_more : (m : ℕ) (ws : List ℕ) (i : ℕ) → i < get_or ws 0 0 →
-    drop i (subscribers m ws) ≡ subscriber (take (1 + 2 * m) (drop (1 + (1 + 2 * m) * i) ws)) ∷ drop (i + 1) (subscribers m ws)
-unfolding subscribers held
-subscribers_more m ws i h =
-    let r = rows_more (1 + 2 * m) (get_or ws 0 0) (drop 1 ws) i h in
-    let a = drop-map subscriber i (rows (1 + 2 * m) (get_or ws 0 0) (drop 1 ws)) in
-    let b = drop-map subscriber (i + 1) (rows (1 + 2 * m) (get_or ws 0 0) (drop 1 ws)) in
-    let d = drop-drop ((1 + 2 * m) * i) 1 ws in
-    rw (a, b, r, d) refl
-
--- a pass for a number, one subscriber on, and at the end
-pub ahead_more : (n m : ℕ) (ws : List ℕ) (i : ℕ) → i < get_or ws 0 0 →
-    ahead n (drop i (subscribers m ws)) ≡ cond (eqb (get_or (take (1 + 2 * m) (drop (1 + (1 + 2 * m) * i) ws)) 0 0) n) 0 (suc (ahead n (drop (i + 1) (subscribers m ws))))
-unfolding ahead
-ahead_more n m ws i h = ap (ahead n) (subscribers_more m ws i h)
-
-pub ahead_all : (n m : ℕ) (ws : List ℕ) (i : ℕ) → get_or ws 0 0 ≤ i → ahead n (drop i (subscribers m ws)) ≡ 0
-unfolding ahead
-ahead_all n m ws i h = ap (ahead n) (drop_all i (subscribers m ws) (omega (arith, length_subscribers m ws)))
+-- slots that have a first word: the first with a number, and how many stand before it
+pub ahead_is : (n w : ℕ) (ss : List (List ℕ)) → 0 < w → Wide w ss → position_or_len (has_number n) ss ≡ ahead n (map subscriber ss)
+unfolding ahead has_number
+ahead_is n w [] h d = refl
+ahead_is n w (s ∷ ss) h d = go s (omega (arith, wide_head w s ss d)) (ahead_is n w ss h (wide_tail w s ss d))
+  where
+    go : (s : List ℕ) → 0 < length s → position_or_len (has_number n) ss ≡ ahead n (map subscriber ss) → position_or_len (has_number n) (s ∷ ss) ≡ ahead n (map subscriber (s ∷ ss))
+    go [] l e = absurd (omega arith)
+    go (x ∷ xs) l e = grind arith
 
 -- a number is known just if fewer stand ahead of it than there are
 pub ahead_known : (n : ℕ) (rs : List Subscriber) → ltb (ahead n rs) (length rs) ≡ known n rs
@@ -49,6 +49,17 @@ ahead_known n [] = refl
 ahead_known n (r ∷ rs) =
     let p = ahead_known n rs in
     grind (arith, nat_tests)
+
+-- the place of a number, as the library's `position` finds it among the slots
+pub number_at : (n m : ℕ) (ws : List ℕ) → Whole m ws →
+    cond (ltb (position_or_len (has_number n) (held (1 + 2 * m) ws)) (length (held (1 + 2 * m) ws))) (Some (position_or_len (has_number n) (held (1 + 2 * m) ws))) None
+    ≡ cond (known n (subscribers m ws)) (Some (ahead n (subscribers m ws))) None
+unfolding subscribers
+number_at n m ws h =
+    let a = ahead_is n (1 + 2 * m) (held (1 + 2 * m) ws) (omega arith) (wide_held (1 + 2 * m) ws h) in
+    let l = length-map (held (1 + 2 * m) ws) subscriber in
+    let k = ahead_known n (subscribers m ws) in
+    rw (a, ← l, k) refl
 
 -- the list without the subscriber with the number, by its place
 pub dropped_at : (n : ℕ) (rs : List Subscriber) → dropped n rs ≡ remove rs (ahead n rs)
@@ -89,55 +100,27 @@ reached_push e (x ∷ rs) r =
     let p = reached_push e rs r in
     grind arith
 
--- the first i subscribers and the next one
-pub subscribers_push : (m : ℕ) (ws : List ℕ) (i : ℕ) → i < get_or ws 0 0 →
-    take (i + 1) (subscribers m ws) ≡ take i (subscribers m ws) ++ subscriber (take (1 + 2 * m) (drop (1 + (1 + 2 * m) * i) ws)) ∷ []
-subscribers_push m ws i h =
-    let l : i < length (subscribers m ws) = omega (arith, length_subscribers m ws) in
-    let t = take_more (subscribers m ws) i (subscriber []) l in
-    let d = drop_more (subscribers m ws) i (subscriber []) l in
-    let s = subscribers_more m ws i h in
-    cc
+-- a slot that is still to come is as wide as the others, and fewer than all were gone through
+pub slot_to_come : (m : ℕ) (ws : List ℕ) (done : List (List ℕ)) (s : List ℕ) (rest left : List (List ℕ)) → Whole m ws → done ++ left ≡ held (1 + 2 * m) ws → left ≡ s ∷ rest →
+    (length s ≡ 1 + 2 * m) × (length done < get_or ws 0 0)
+slot_to_come m ws done s rest left h e g =
+    let y = yet_to_come (1 + 2 * m) done rest (held (1 + 2 * m) ws) s left (wide_held (1 + 2 * m) ws h) e g in
+    (y.0, omega (arith, y.1, length_held (1 + 2 * m) ws))
 
--- of the first i subscribers the numbers of those that are reached stand in the first k words of ys, and past that ys is as zs was
-pub record Delivering (e : Notice) (rs : List Subscriber) (zs ys : List ℕ) (k i : ℕ) : Type 0 where
-  pub words : ys ≡ reached e (take i rs) ++ drop k zs
-  pub counted : k ≡ length (reached e (take i rs))
-  pub behind : k ≤ i
-
-pub delivering_none : (e : Notice) (rs : List Subscriber) (zs : List ℕ) → Delivering e rs zs zs 0 0
-unfolding reached
-delivering_none e rs zs = record { words = refl; counted = refl; behind = omega arith }
-
-pub delivering_skip : (e : Notice) (rs : List Subscriber) (zs ys : List ℕ) (k i : ℕ) (r : Subscriber) → Delivering e rs zs ys k i → take (i + 1) rs ≡ take i rs ++ r ∷ [] →
-    matches r.filter e ≡ false → Delivering e rs zs ys k (i + 1)
-delivering_skip e rs zs ys k i r h t c =
-    let p = reached_push e (take i rs) r in
-    let q : reached e (take (i + 1) rs) ≡ reached e (take i rs) = grind arith in
-    let b = h.behind in
-    record { words = rw q h.words; counted = rw q h.counted; behind = omega arith }
-
-pub delivering_pick : (e : Notice) (rs : List Subscriber) (zs ys : List ℕ) (k i : ℕ) (r : Subscriber) → Delivering e rs zs ys k i → take (i + 1) rs ≡ take i rs ++ r ∷ [] →
-    matches r.filter e ≡ true → k < length zs → Delivering e rs zs (set ys k r.number) (k + 1) (i + 1)
-delivering_pick e rs zs ys k i r h t c l =
-    let p = reached_push e (take i rs) r in
-    let q : reached e (take (i + 1) rs) ≡ reached e (take i rs) ++ r.number ∷ [] = grind arith in
-    let b = h.behind in
-    let n = length_push (reached e (take i rs)) r.number in
-    let s = push_over (reached e (take i rs)) zs k r.number h.counted l in
-    let counts = h.counted in
-    record { words = rw (h.words, q, s) refl; counted = rw q (omega arith); behind = omega arith }
+-- of those that were gone through those that are reached, with one subscriber more
+pub reached_next : (e : Notice) (done : List (List ℕ)) (s : List ℕ) →
+    reached e (map subscriber (done ++ s ∷ [])) ≡ cond (matches (drop 1 s) e) (reached e (map subscriber done) ++ get_or s 0 0 ∷ []) (reached e (map subscriber done))
+reached_next e done s = ap (reached e) (map-append subscriber done (s ∷ [])) ∙ reached_push e (map subscriber done) (subscriber s)
 
 -- a pass that inserts the filters, one subscriber on, and at the end
-pub gathered_more : (w m : ℕ) (ws t : List ℕ) (i : ℕ) → i < get_or ws 0 0 →
-    inserted_all w (filters_of (drop i (subscribers m ws))) t
-    ≡ inserted_all w (filters_of (drop (i + 1) (subscribers m ws))) (stored w (insert (drop 1 (take (1 + 2 * m) (drop (1 + (1 + 2 * m) * i) ws))) (held w t)) t)
+pub gathered_next : (w : ℕ) (s : List ℕ) (rest left : List (List ℕ)) (t : List ℕ) → left ≡ s ∷ rest →
+    inserted_all w (filters_of (map subscriber rest)) (stored w (insert (drop 1 s) (held w t)) t) ≡ inserted_all w (filters_of (map subscriber left)) t
 unfolding inserted_all filters_of
-gathered_more w m ws t i h = ap (λ rs. inserted_all w (filters_of rs) t) (subscribers_more m ws i h)
+gathered_next w s rest left t e = rw e refl
 
-pub gathered_all : (w m : ℕ) (ws t : List ℕ) (i : ℕ) → get_or ws 0 0 ≤ i → inserted_all w (filters_of (drop i (subscribers m ws))) t ≡ t
+pub gathered_none : (w : ℕ) (left : List (List ℕ)) (t : List ℕ) → left ≡ [] → t ≡ inserted_all w (filters_of (map subscriber left)) t
 unfolding inserted_all filters_of
-gathered_all w m ws t i h = ap (λ rs. inserted_all w (filters_of rs) t) (drop_all i (subscribers m ws) (omega (arith, length_subscribers m ws)))
+gathered_none w left t e = rw e refl
 
 -- what a place that was found, or none, tells
 found_at : (n at : ℕ) (rs : List Subscriber) → Some at ≡ cond (known n rs) (Some (ahead n rs)) None → (known n rs ≡ true) × (at ≡ ahead n rs) × (at < length rs)
@@ -170,8 +153,12 @@ filter_ahead n (x ∷ rs) ss r k e = go (eqb x.number n) k e (filter_ahead n rs 
         ap (λ y. y.filter) q
     go false k e i = i k e
 
-pub filter_there : (n m at : ℕ) (ws : List ℕ) → known n (subscribers m ws) ≡ true → at ≡ ahead n (subscribers m ws) → at < get_or ws 0 0 →
-    filter_of n (subscribers m ws) ≡ drop 1 (take (1 + 2 * m) (drop (1 + (1 + 2 * m) * at) ws))
-filter_there n m at ws k e l =
-    let s = subscribers_more m ws at l in
-    filter_ahead n (subscribers m ws) (drop (at + 1) (subscribers m ws)) (subscriber (take (1 + 2 * m) (drop (1 + (1 + 2 * m) * at) ws))) k (ap (λ i. drop i (subscribers m ws)) (sym e) ∙ s)
+pub filter_there : (n m at : ℕ) (ws s : List ℕ) → Whole m ws → known n (subscribers m ws) ≡ true → at ≡ ahead n (subscribers m ws) → at < get_or ws 0 0 → s ≡ get_or (held (1 + 2 * m) ws) at [] →
+    (length s ≡ 1 + 2 * m) × (filter_of n (subscribers m ws) ≡ drop 1 s)
+unfolding subscribers
+filter_there n m at ws s h k e l i =
+    let b : at < length (held (1 + 2 * m) ws) = omega (arith, length_held (1 + 2 * m) ws) in
+    let d = drop_more (held (1 + 2 * m) ws) at [] b in
+    let t = slot_to_come m ws (take at (held (1 + 2 * m) ws)) s (drop (at + 1) (held (1 + 2 * m) ws)) (drop at (held (1 + 2 * m) ws)) h (take-append-drop at (held (1 + 2 * m) ws)) (rw (← i) at d) in
+    let a = drop-map subscriber at (held (1 + 2 * m) ws) ∙ ap (map subscriber) (rw (← i) at d) in
+    (t.0, filter_ahead n (subscribers m ws) (map subscriber (drop (at + 1) (held (1 + 2 * m) ws))) (subscriber s) k (ap (λ i. drop i (subscribers m ws)) (sym e) ∙ a))

@@ -1,10 +1,11 @@
 -- What a broker has learned from its neighbours, and what it has to announce to one of them.
-use Rattle.std.specs.Prelude.{◌≡◌, ℕ, zero, suc, ◌+◌, ◌*◌, ◌<◌, ◌≤◌, cond, List, [], ◌∷◌, ◌++◌, length, ◌==◌, slice_index}
-use Rattle.std.specs.List.{between}
+use Rattle.std.specs.Prelude.{◌≡◌, ℕ, ◌+◌, ◌*◌, ◌≤◌, cond, List, [], ◌∷◌, ◌++◌, map, length, ◌==◌, slice_index_or}
+use Rattle.std.specs.List.{AllByRecursion}
 use Rattle.filter.specs.Filter.{Filter}
 use Rattle.cover.specs.Maximal.{maximal}
-use Rattle.cover.specs.Table.{Wide, held, laid}
+use Rattle.cover.specs.Table.{Wide, Whole, held, laid}
 use Rattle.broker.specs.Subscribers.{Subscriber, filters_of}
+use Rattle.broker.specs.declared.neighbour.Neighbour.{Neighbour}
 
 -- a table with room for so many filters holds these
 pub record Keeps (room m : ℕ) (fs : List Filter) (ws : List ℕ) : Type 0 where
@@ -21,20 +22,23 @@ from_others table n (k ∷ ks) = cond (k == n) (from_others table n ks) (table k
 unfoldable pub to_announce : List Subscriber → (ℕ → List Filter) → List ℕ → ℕ → List Filter
 to_announce own table ns n = maximal (filters_of own ++ from_others table n ns)
 
--- the table that lies at the j-th of these places in the memory
-unfoldable pub table_at : (m size : ℕ) (memory places : List ℕ) → ℕ → List Filter
-table_at m size memory places j = held (2 * m) (between (slice_index places j) (slice_index places j + size) memory)
+-- the filters learned from a neighbour
+abbrev pub learned_from : ℕ → Neighbour → List Filter
+learned_from m n = held (2 * m) n.learned.now
 
--- what the tables of the first k neighbours hold, but for those of n; the tables go by the neighbour's place in the list
-unfoldable pub others : (ℕ → List Filter) → List ℕ → ℕ → ℕ → List Filter
-others table ns n zero = []
-others table ns n (suc k) = others table ns n k ++ cond (slice_index ns k == n) [] (table k)
+-- all the filters that the tables of these neighbours count are there
+abbrev pub Learned : ℕ → List Neighbour → Type 0
+Learned m ns = AllByRecursion (λ n. Whole (2 * m) n.learned.now) ns
+
+-- what was learned from the j-th of these neighbours
+abbrev pub table_at : ℕ → List Neighbour → ℕ → List Filter
+table_at m ns j = slice_index_or (map (learned_from m) ns) j []
+
+-- what was learned from these neighbours, but for n
+unfoldable pub others : ℕ → List Neighbour → ℕ → List Filter
+others m [] n = []
+others m (k ∷ ks) n = cond (k.broker == n) (others m ks n) (learned_from m k ++ others m ks n)
 
 -- all that a broker knows but from n: its subscribers' filters, and what it has learned from the other neighbours
-abbrev pub known_but : (own : List Subscriber) → (ℕ → List Filter) → List ℕ → ℕ → List Filter
-known_but own table ns n = filters_of own ++ others table ns n (length ns)
-
--- each table lies within the memory, and its filters within its words
-abbrev pub Placed : (m size : ℕ) (memory places : List ℕ) → Type 0
-Placed m size memory places =
-    (j : ℕ) → j < length places → (slice_index places j + size ≤ length memory) × (1 + 2 * m * length (table_at m size memory places j) ≤ size)
+abbrev pub known_but : ℕ → (own : List Subscriber) → List Neighbour → ℕ → List Filter
+known_but m own ns n = filters_of own ++ others m ns n

@@ -15,6 +15,11 @@ row_of s = s.number ∷ s.filter
 abbrev pub subscriber : List ℕ → Subscriber
 subscriber r = record { number = slice_index r 0; filter = drop 1 r }
 
+-- a slot begins with this number
+unfoldable pub has_number : ℕ → List ℕ → Bool
+has_number n [] = false
+has_number n (x ∷ xs) = x == n
+
 -- the subscriber with this number and the first m ranges of a filter
 abbrev pub newcomer : (m number : ℕ) → List ℕ → Subscriber
 newcomer m number bounds = record { number = number; filter = take (2 * m) bounds }

@@ -1,18 +1,20 @@
 // What a broker has learned from its neighbours, in tables of filters, and what it has to announce to one of them: computed anew, and compared with
 // what it announced last, before anything is changed.
-ghost use Rattle.std.specs.Prelude.{◌≡◌, ℕ, ◌+◌, ◌*◌, ◌<◌, ◌≤◌, List, ◌++◌, length, take, drop, slice_index};
+ghost use Rattle.std.specs.Prelude.{◌≡◌, ℕ, ◌+◌, ◌*◌, ◌<◌, ◌≤◌, List, ◌++◌, map, length, take, drop, slice_index};
+ghost use Rattle.std.specs.List.{AllByRecursion};
 ghost use Rattle.filter.specs.Filter.{Filter as Row};
 ghost use Rattle.cover.specs.Maximal.{put, without, maximal, minus};
 ghost use Rattle.cover.specs.Table.{held, changed, laid, written, inserted_all};
 ghost use Rattle.broker.specs.Subscribers.{subscribers, Whole};
-ghost use Rattle.broker.specs.Announcing.{Keeps, to_announce, table_at, known_but, Placed};
+ghost use Rattle.broker.specs.Announcing.{Keeps, Learned, learned_from, to_announce, known_but};
 
+use crate::neighbour::Neighbour;
 use crate::subscribers;
-use cover::table;
+use cover::{Rows, table};
 use filter::Filter;
 
 // How many filters are to be added and how many to be cut.
-#[derive(Clone, Copy, Debug)]
+#[derive(Clone, Copy, PartialEq, Eq, Debug)]
 pub struct Changes {
     pub adds: usize,
     pub cuts: usize,
@@ -45,42 +47,30 @@ fn gather(learned: &[u64], m: usize, out: &mut [u64])
     requires room { 1 + 2 * m * (slice_index out.old 0 + slice_index learned.now 0) ≤ length out.old }
     ensures { out.new ≡ inserted_all (2 * m) (held (2 * m) learned.now) out.old }
 {
-    table::insert_all(out, &learned[1..], learned[0] as usize, 2 * m);
+    table::insert_all(out, Rows::counted(learned, 2 * m));
 }
 
 // What a broker has to announce to the neighbour `but`, as a table over whatever stood there: the maximal filters of its own subscribers and of the
-// tables that it learned from the other neighbours. The tables lie in the memory, each of `size` words, at a place for each neighbour.
-pub fn to_announce(
-    own: &[u64],
-    memory: &[u64],
-    neighbours: &[u64],
-    places: &[u64],
-    size: usize,
-    but: u64,
-    m: usize,
-    out: &mut [u64],
-)
+// tables that it learned from the other neighbours.
+pub fn to_announce(own: &[u64], neighbours: &[Neighbour<'_>], but: u64, m: usize, out: &mut [u64])
     requires count { (1 ≤ m) × (m ≤ 8) }
     requires whole { Whole m own.now }
-    requires both { length places.now ≡ length neighbours.now }
-    requires placed { Placed m size memory.now places.now }
-    requires room { 1 + 2 * m * length (known_but (subscribers m own.now) (table_at m size memory.now places.now) neighbours.now but) ≤ length out.old }
-    ensures words { out.new ≡ laid (2 * m) (length out.old) (maximal (known_but (subscribers m own.now) (table_at m size memory.now places.now) neighbours.now but)) }
-    ensures model { (table : ℕ → List Row) → ((k : ℕ) → k < length neighbours.now → table_at m size memory.now places.now k ≡ table (slice_index neighbours.now k)) → out.new ≡ laid (2 * m) (length out.old) (to_announce (subscribers m own.now) table neighbours.now but) }
+    requires learned { Learned m neighbours.now }
+    requires room { 1 + 2 * m * length (known_but m (subscribers m own.now) neighbours.now but) ≤ length out.old }
+    ensures words { out.new ≡ laid (2 * m) (length out.old) (maximal (known_but m (subscribers m own.now) neighbours.now but)) }
+    ensures model { (table : ℕ → List Row) → AllByRecursion (λ n. learned_from m n ≡ table n.broker) neighbours.now → out.new ≡ laid (2 * m) (length out.old) (to_announce (subscribers m own.now) table (map (λ n. n.broker) neighbours.now) but) }
 {
     out.fill(0);
     subscribers::gather(own, m, out);
-    'neighbours: for j in 0..neighbours.len() {
-        if neighbours[j] == but {
-            continue 'neighbours;
+    for neighbour in neighbours {
+        if neighbour.broker != but {
+            gather(neighbour.learned, m, out);
         }
-        let at = places[j] as usize;
-        gather(&memory[at..at + size], m, out);
     }
 }
 
 // From what was announced last to what is to be announced now: writes the filters to be added and those to be cut, each in order, and says how many
-// they are.
+// they are. Either may be as long as a table, so they lie in words of the caller's, and are not handed over by value.
 pub fn compare(old: &[u64], new: &[u64], m: usize, adds: &mut [u64], cuts: &mut [u64]) -> Changes
     requires count { m ≤ 8 }
     requires whole { (1 + 2 * m * slice_index old.now 0 ≤ length old.now) × (1 + 2 * m * slice_index new.now 0 ≤ length new.now) }
@@ -89,8 +79,9 @@ pub fn compare(old: &[u64], new: &[u64], m: usize, adds: &mut [u64], cuts: &mut 
     ensures added { adds.new ≡ written (minus (held (2 * m) new.now) (held (2 * m) old.now)) ++ drop (2 * m * result.adds) adds.old }
     ensures gone { cuts.new ≡ written (minus (held (2 * m) old.now) (held (2 * m) new.now)) ++ drop (2 * m * result.cuts) cuts.old }
 {
+    let (old, new) = (Rows::counted(old, 2 * m), Rows::counted(new, 2 * m));
     Changes {
-        adds: table::minus(new, old, 2 * m, adds),
-        cuts: table::minus(old, new, 2 * m, cuts),
+        adds: new.minus(old, adds),
+        cuts: old.minus(new, cuts),
     }
 }

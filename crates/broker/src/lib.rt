@@ -3,5 +3,6 @@
 
 pub mod announcing;
 pub mod forwarding;
+pub mod neighbour;
 pub mod subscribers;
 pub mod theorems;

@@ -3,51 +3,28 @@ ghost use Rattle.std.specs.Prelude.{◌≡◌, ℕ, ◌+◌, ◌-◌, ◌*◌, �
 ghost use borrow.Rule.Slice.PartMut.{put_mid};
 ghost use Rattle.filter.specs.Filter.{padded};
 ghost use Rattle.cover.specs.Table.{inserted_all};
-ghost use Rattle.broker.specs.Subscribers.{Subscriber, newcomer, subscribers, with_subscribers, Holds, Shape, Whole, filters_of, known, filter_of, ahead, dropped, reached};
+ghost use Rattle.broker.specs.Subscribers.{Subscriber, has_number, newcomer, subscribers, with_subscribers, Holds, Shape, Whole, filters_of, known, filter_of, ahead, dropped, reached};
 
-use cover::table;
+use arrayvec::ArrayVec;
+use cover::{Rows, moving, table};
 use filter::{Filter, in_place};
 
 // A broker has no room for one subscriber more.
-#[derive(Clone, Copy, Debug)]
+#[derive(Clone, Copy, PartialEq, Eq, Debug)]
 pub struct Full;
 
 // A broker has no subscriber with the number.
-#[derive(Clone, Copy, Debug)]
+#[derive(Clone, Copy, PartialEq, Eq, Debug)]
 pub struct Absent;
 
-// The words of the subscriber at place i.
-fn slot(part: &[u64], m: usize, i: usize) -> &[u64]
-    requires { (m ≤ 8) × (i < slice_index part.now 0) × Whole m part.now }
-    ensures words { result.now ≡ take (1 + 2 * m) (drop (1 + (1 + 2 * m) * i) part.now) }
-    ensures wide { length result.now ≡ 1 + 2 * m }
+// Whether a slot begins with this number.
+fn has_number(slot: &[u64], number: u64) -> bool
+    ensures { result ≡ has_number number slot.now }
 {
-    let width = 1 + 2 * m;
-    let at = 1 + width * i;
-    &part[at..at + width]
-}
-
-// The filter of the subscriber at place i.
-fn filter_at(part: &[u64], m: usize, i: usize) -> &[u64]
-    requires { (m ≤ 8) × (i < slice_index part.now 0) × Whole m part.now }
-    ensures words { result.now ≡ drop 1 (take (1 + 2 * m) (drop (1 + (1 + 2 * m) * i) part.now)) }
-    ensures wide { length result.now ≡ 2 * m }
-{
-    &slot(part, m, i)[1..]
-}
-
-// How many subscribers stand before the first with this number; all, if none has it.
-fn place(part: &[u64], m: usize, number: u64) -> usize
-    requires { (m ≤ 8) × Whole m part.now }
-    ensures { result ≡ ahead number (subscribers m part.now) }
-{
-    let count = part[0] as usize;
-    for i in 0..count {
-        if slot(part, m, i)[0] == number {
-            return i;
-        }
+    match slot {
+        [first, ..] => *first == number,
+        [] => false,
     }
-    count
 }
 
 // The place of the subscriber with this number, if there is one.
@@ -55,12 +32,7 @@ pub fn find(part: &[u64], m: usize, number: u64) -> Option<usize>
     requires { (m ≤ 8) × Whole m part.now }
     ensures { result ≡ (if known number (subscribers m part.now) then Some (ahead number (subscribers m part.now)) else None) }
 {
-    let at = place(part, m, number);
-    if at < part[0] as usize {
-        Some(at)
-    } else {
-        None
-    }
+    Rows::counted(part, 1 + 2 * m).position(|slot| has_number(slot, number))
 }
 
 // The filter of the subscriber with this number, if there is one.
@@ -68,10 +40,9 @@ pub fn filter_of(part: &[u64], m: usize, number: u64) -> Option<Filter>
     requires { (m ≤ 8) × Whole m part.now }
     ensures { result ≡ (if known number (subscribers m part.now) then Some (record { bounds = padded 16 (filter_of number (subscribers m part.now)) }) else None) }
 {
-    let Some(at) = find(part, m, number) else {
-        return None;
-    };
-    Some(Filter::new(filter_at(part, m, at)))
+    let at = find(part, m, number)?;
+    let slot = Rows::counted(part, 1 + 2 * m).get(at)?;
+    Some(Filter::new(&slot[1..]))
 }
 
 // Writes a subscriber over the slot at place i.
@@ -108,15 +79,6 @@ pub fn join(
     Ok(())
 }
 
-// Takes n words out at a word; the words past them to the end move down, and the last n are zero.
-fn shift_out(words: &mut [u64], at: usize, end: usize, n: usize)
-    requires { (at + n ≤ end) × (end ≤ length words.old) }
-    ensures { words.new ≡ take at words.old ++ (take (end - (at + n)) (drop (at + n) words.old) ++ (replicate n 0 ++ drop end words.old)) }
-{
-    words[at..end].rotate_left(n);
-    words[end - n..end].fill(0);
-}
-
 // Takes the subscriber with this number out; those behind it move up, in their order. Where there is none, nothing changes.
 pub fn leave(part: &mut [u64], m: usize, number: u64) -> Result<(), Absent>
     requires { (m ≤ 8) × Whole m part.old }
@@ -125,31 +87,30 @@ pub fn leave(part: &mut [u64], m: usize, number: u64) -> Result<(), Absent>
     ensures fits { slice_index part.new 0 ≤ slice_index part.old 0 }
     ensures holds { (room : ℕ) (rs : List Subscriber) → Holds room m rs part.old → Holds room m (dropped number rs) part.new }
 {
+    // (not `ok_or(Absent)?`: its proof has to take the library's two steps apart)
     let Some(at) = find(part, m, number) else {
         return Err(Absent);
     };
     let width = 1 + 2 * m;
     let count = part[0] as usize;
-    shift_out(&mut part[1..], width * at, width * count, width);
+    moving::shift_out(&mut part[1..], width * at, width * count, width);
     part[0] = count as u64 - 1;
     Ok(())
 }
 
-// Writes the numbers of the subscribers whose filter matches the notice, in their order, and says how many they are.
-pub fn deliver(part: &[u64], m: usize, notice: &[u64], out: &mut [u64]) -> usize
+// The numbers of the subscribers whose filter matches the notice, in their order.
+pub fn deliver<const N: usize>(part: &[u64], m: usize, notice: &[u64]) -> ArrayVec<u64, N>
     requires whole { (m ≤ 8) × Whole m part.now }
-    requires room { slice_index part.now 0 ≤ length out.old }
-    ensures counted { result ≡ length (reached notice.now (subscribers m part.now)) }
-    ensures words { out.new ≡ reached notice.now (subscribers m part.now) ++ drop result out.old }
+    requires room { slice_index part.now 0 ≤ N }
+    ensures { result.items ≡ reached notice.now (subscribers m part.now) }
 {
-    let mut to = 0;
-    for i in 0..part[0] as usize {
-        if in_place::matches(filter_at(part, m, i), notice) {
-            out[to] = slot(part, m, i)[0];
-            to += 1;
+    let mut whom = ArrayVec::new();
+    for slot in Rows::counted(part, 1 + 2 * m) {
+        if in_place::matches(&slot[1..], notice) {
+            whom.push(slot[0]);
         }
     }
-    to
+    whom
 }
 
 // Inserts the subscribers' filters into a table of maximal filters.
@@ -158,7 +119,7 @@ pub fn gather(part: &[u64], m: usize, table: &mut [u64])
     requires room { 1 + 2 * m * (slice_index table.old 0 + slice_index part.now 0) ≤ length table.old }
     ensures { table.new ≡ inserted_all (2 * m) (filters_of (subscribers m part.now)) table.old }
 {
-    for i in 0..part[0] as usize {
-        table::insert(table, filter_at(part, m, i));
+    for slot in Rows::counted(part, 1 + 2 * m) {
+        table::insert(table, &slot[1..]);
     }
 }

@@ -1,6 +1,5 @@
-use Rattle.broker.specs.Announcing.{table_at}
 use Rattle.broker.proofs.Gathered.{Gathered}
 use Rattle.broker.proofs.announcing.to_announce.Given as goal
 
-abbrev pub invariant-neighbours : goal.invariant-neighbours
-invariant-neighbours l = Gathered l.m l.own (table_at l.m l.size l.memory l.places) l.neighbours l.but l.out l.j
+abbrev pub invariant-loop-neighbour : goal.invariant-loop-neighbour
+invariant-loop-neighbour l = Gathered l.m l.own l.neighbours l.but l.out l.neighbour-index

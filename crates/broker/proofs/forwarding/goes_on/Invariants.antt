@@ -1,15 +1,13 @@
-use Rattle.std.proofs.Common.{◌≡◌, ◌*◌, drop}
+use Rattle.std.proofs.Common.{◌≡◌, ◌≤◌, length}
 use Rattle.cover.specs.Maximal.{any_matches}
-use Rattle.cover.specs.Table.{held}
-use Rattle.broker.specs.Announcing.{table_at}
-use Rattle.broker.proofs.Forwards.{Chosen}
+use Rattle.cover.specs.Rows.{listed}
+use Rattle.broker.specs.Announcing.{learned_from}
+use Rattle.broker.proofs.Forwards.{chosen}
 use Rattle.broker.proofs.forwarding.goes_on.Given as goal
 
 abbrev pub invariant-neighbours : goal.invariant-neighbours
-invariant-neighbours l = Chosen (table_at l.m l.size l.memory l.places) l.neighbours l.from l.notice l.initial.out l.out l.to l.j
+invariant-neighbours g l = (l.to.items ≡ chosen l.m l.neighbours l.from l.notice l.neighbour-index) × (length l.to.items ≤ l.neighbour-index)
 
--- so far none of the table's filters matched
-abbrev pub invariant-loop-i : goal.invariant-loop-i
-invariant-loop-i l =
-    (l.out ≡ l.initial.out) × (l.to ≡ l.initial.to)
-    × (any_matches (drop l.i (held (2 * l.m) l.table)) l.notice ≡ any_matches (held (2 * l.m) l.table) l.notice)
+-- a filter of the neighbour's table matches the notice just if one of those that are left does
+abbrev pub invariant-loop-filter : goal.invariant-loop-filter
+invariant-loop-filter g l = (l.to.items ≡ l.initial.to.items) × (any_matches (listed l.filter-iterator) l.notice ≡ any_matches (learned_from l.m l.neighbour) l.notice)

@@ -1,6 +1,12 @@
-use Rattle.broker.specs.Subscribers.{subscribers}
-use Rattle.broker.proofs.Slots.{Delivering}
+use Rattle.std.proofs.Common.{◌≡◌, ◌+◌, ◌*◌, ◌≤◌, ℕ, List, ◌++◌, map, length}
+use Rattle.cover.specs.Table.{held}
+use Rattle.cover.specs.Rows.{listed}
+use Rattle.broker.specs.Subscribers.{subscriber, reached}
 use Rattle.broker.proofs.subscribers.deliver.Given as goal
 
-abbrev pub invariant-loop-i : goal.invariant-loop-i
-invariant-loop-i l = Delivering l.notice (subscribers l.m l.part) l.initial.out l.out l.to l.i
+abbrev pub invariant-loop-slot : goal.invariant-loop-slot
+invariant-loop-slot g l =
+    (done : List (List ℕ))
+    × (done ++ listed l.slot-iterator ≡ held (1 + 2 * l.m) l.part)
+    × (l.whom.items ≡ reached l.notice (map subscriber done))
+    × (length l.whom.items ≤ length done)
