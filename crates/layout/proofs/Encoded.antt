@@ -27,7 +27,7 @@ use Rattle.layout.specs.declared.opening.Opening.{Opening}
 use Rattle.layout.proofs.Carried.{carries_read, carries_none}
 use Rattle.layout.proofs.Frames.{part_within}
 use Rattle.layout.proofs.Logged.{lists_read, lists_none, delivers_read, delivers_none}
-use Rattle.layout.proofs.Sized.{subscribers_size, announced_size, learned_size, channel_size}
+use Rattle.layout.proofs.Sized.{subscribers_size, tables_size, channel_size}
 use Rattle.layout.proofs.Written.{link_within_o}
 
 -- what is read where there is something, and nothing elsewhere
@@ -68,8 +68,8 @@ cleared_encodes o memory w z =
       whole = w;
       subscribers = λ b p. subst (Holds o.subscribers o.ranges []) (sym (cleared_part (plan_of o) memory 0 b w z p ∙ ap (λ n. replicate n 0) (subscribers_size o))) (cleared_holds o.subscribers o.ranges);
       arrived = λ b p. subst (Lists []) (sym (cleared_part (plan_of o) memory 1 b w z p)) lists_none;
-      announced = λ a b p. subst (Keeps (filters_room o) o.ranges []) (sym (cleared_part (plan_of o) memory 2 (link a b) w z (link_within_o o a b p) ∙ ap (λ n. replicate n 0) (announced_size o))) (cleared_keeps (filters_room o) o.ranges);
-      learned = λ a b p. subst (Keeps (filters_room o) o.ranges []) (sym (cleared_part (plan_of o) memory 3 (link a b) w z (link_within_o o a b p) ∙ ap (λ n. replicate n 0) (learned_size o))) (cleared_keeps (filters_room o) o.ranges);
+      announced = λ a b p. subst (Keeps (filters_room o) o.ranges []) (sym (cleared_part (plan_of o) memory 2 (link a b) w z (link_within_o o a b p) ∙ ap (λ n. replicate n 0) (tables_size o).0)) (cleared_keeps (filters_room o) o.ranges);
+      learned = λ a b p. subst (Keeps (filters_room o) o.ranges []) (sym (cleared_part (plan_of o) memory 3 (link a b) w z (link_within_o o a b p) ∙ ap (λ n. replicate n 0) (tables_size o).1)) (cleared_keeps (filters_room o) o.ranges);
       channel = λ a b p. subst (Carries o.messages o.ranges []) (sym (cleared_part (plan_of o) memory 4 (link a b) w z (link_within_o o a b p) ∙ ap (λ n. replicate n 0) (channel_size o))) (carries_none o.messages o.ranges o.valid.3.0);
       posted = subst (Lists []) (sym (cleared_part (plan_of o) memory 5 0 w z (omega arith))) lists_none;
       deliveries = subst (Delivers []) (sym (cleared_part (plan_of o) memory 6 0 w z (omega arith))) delivers_none;

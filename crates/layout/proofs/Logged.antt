@@ -1,9 +1,10 @@
 -- Parts that only grow: what they are read as, and what they hold after one row more, or several.
-use Rattle.std.proofs.Common.{◌≡◌, ℕ, ◌+◌, ◌*◌, ◌<◌, ◌≤◌, ◌||◌, eqb, List, [], ◌∷◌, ◌++◌, map, reverse, length, get_or, take, drop, replicate, sym, refl, ap, ◌∙◌, arith}
-use Rattle.std.proofs.lemmas.List.{append_assoc, append-nil, get_or-drop, get_or-map, get_or-take, length-append, length-map, length-reverse, length_push, length-take-le, map-append, map_push, reverse-append, reverse-reverse, drop_all, take_more}
+use Rattle.std.proofs.Common.{◌≡◌, ℕ, zero, suc, ◌+◌, ◌-◌, ◌*◌, ◌<◌, ◌≤◌, ◌||◌, eqb, List, [], ◌∷◌, ◌++◌, map, reverse, length, get_or, take, drop, replicate, sym, refl, ap, ◌∙◌, arith}
+use Rattle.std.specs.List.{list_any}
+use Rattle.std.proofs.lemmas.List.{append_assoc, append-nil, get_or-drop, get_or-map, get_or-take, length-append, length-drop, length-map, length-reverse, length_push, length-take-le, map-append, map_push, reverse-append, reverse-reverse, take_more}
 use Rattle.cover.specs.Maximal.{among}
-use Rattle.cover.specs.Table.{Wide, held, stored}
-use Rattle.cover.proofs.RowLaws.{rows_more, get_d_rows}
+use Rattle.cover.specs.Table.{Wide, rows, held, stored}
+use Rattle.cover.proofs.RowLaws.{get_d_rows}
 use Rattle.cover.proofs.TableLaws.{length_held, wide_cons, wide_held, held_stored, held_laid, laid_none, length_laid, getD_laid, getD_stored, stored_same, stored_on, stored_laid}
 use Rattle.broker.proofs.Gathered.{wide_append}
 use Rattle.model.specs.Model.{Delivery}
@@ -98,36 +99,40 @@ has_reverse (j ∷ ks) k =
     let i = has_reverse ks k in
     rw (r, a, i) (grind arith)
 
--- a pass over the numbers, one row on
-pub listed_all : (ws : List ℕ) (k : ℕ) → has (map number_of (drop 0 (held 1 ws))) k ≡ has (numbers ws) k
-unfolding numbers
-listed_all ws k = sym (has_reverse (map number_of (held 1 ws)) k)
+has_any : (ks : List ℕ) (k : ℕ) → has ks k ≡ list_any (λ j. eqb j k) ks
+unfolding has
+has_any [] k = refl
+has_any (j ∷ ks) k = ap (λ b. eqb j k || b) (has_any ks k)
 
-pub listed_more : (ws : List ℕ) (k i : ℕ) → i < get_or ws 0 0 →
-    has (map number_of (drop i (held 1 ws))) k ≡ (eqb (get_or ws (1 + i) 0) k || has (map number_of (drop (i + 1) (held 1 ws))) k)
-unfolding held has
-listed_more ws k i h =
-    let m = rows_more 1 (get_or ws 0 0) (drop 1 ws) i h in
-    let v = row_word 1 i 0 ws (omega arith) in
-    let e : 1 + (1 * i + 0) ≡ 1 + i = omega arith in
-    rw (m, v, e) refl
+-- the rows of one word are the words
+rows_single : (n : ℕ) (xs : List ℕ) → n ≤ length xs → map number_of (rows 1 n xs) ≡ take n xs
+unfolding rows
+rows_single zero xs h = refl
+rows_single (suc n) [] h = absurd (omega arith)
+rows_single (suc n) (x ∷ xs) h = ap (λ ys. x ∷ ys) (rows_single n xs (omega arith))
 
-pub listed_none : (ws : List ℕ) (k i : ℕ) → get_or ws 0 0 ≤ i → has (map number_of (drop i (held 1 ws))) k ≡ has [] k
-listed_none ws k i h = ap (λ rs. has (map number_of rs) k) (drop_all i (held 1 ws) (omega (arith, length_held 1 ws)))
+-- a number is listed if one of the words that are in use is that number
+pub listed : (ws : List ℕ) (k : ℕ) → 1 + get_or ws 0 0 ≤ length ws → list_any (λ j. eqb j k) (take (1 + get_or ws 0 0 - 1) (drop 1 ws)) ≡ has (numbers ws) k
+unfolding numbers held
+listed ws k h =
+    let e : 1 + get_or ws 0 0 - 1 ≡ get_or ws 0 0 = omega arith in
+    let r = rows_single (get_or ws 0 0) (drop 1 ws) (omega (arith, length-drop 1 ws)) in
+    let s = has_reverse (map number_of (rows 1 (get_or ws 0 0) (drop 1 ws))) k in
+    rw e (sym (s ∙ ap (λ ks. has ks k) r ∙ has_any (take (get_or ws 0 0) (drop 1 ws)) k))
 
 -- deliveries more: none, and one on
 pub delivered_none : (ws : List ℕ) (k : ℕ) (ns : List ℕ) → 0 < length ws → ws ≡ stored 2 (held 2 ws ++ map delivery_row (all_to k (take 0 ns))) ws
 delivered_none ws k ns h = rw (append-nil (held 2 ws)) (sym (stored_same 2 ws h))
 
-all_to_length : (k i : ℕ) (ns : List ℕ) → i ≤ length ns → length (map delivery_row (all_to k (take i ns))) ≡ i
-all_to_length k i ns h = length-map (all_to k (take i ns)) delivery_row ∙ (length-map (take i ns) (λ n. record { what = k; whom = n }) ∙ length-take-le i ns h)
+all_to_length : (k : ℕ) (ns : List ℕ) → length (map delivery_row (all_to k ns)) ≡ length ns
+all_to_length k ns = length-map (all_to k ns) delivery_row ∙ length-map ns (λ n. record { what = k; whom = n })
 
 pub delivered_count : (ws cur ns : List ℕ) (k i : ℕ) → i ≤ length ns → cur ≡ stored 2 (held 2 ws ++ map delivery_row (all_to k (take i ns))) ws → get_or cur 0 0 ≡ get_or ws 0 0 + i
 delivered_count ws cur ns k i h e =
     let a = ap (λ v. get_or v 0 0) e ∙ getD_stored 2 (held 2 ws ++ map delivery_row (all_to k (take i ns))) ws in
     let b = length-append (held 2 ws) (map delivery_row (all_to k (take i ns))) in
     let c = length_held 2 ws in
-    let d = all_to_length k i ns h in
+    let d = all_to_length k (take i ns) ∙ length-take-le i ns h in
     omega arith
 
 pub delivered_more : (ws cur new ns : List ℕ) (k i : ℕ) → 1 + 2 * get_or ws 0 0 ≤ length ws → i < length ns →
@@ -148,17 +153,17 @@ delivered_more ws cur new ns k i h l e g =
     let q = append_assoc (held 2 ws) rs (row ∷ []) in
     g ∙ rw (e, a, o, q, t, m, p) refl
 
-pub delivered_holds : (hs : List Delivery) (ws new ns : List ℕ) (k many : ℕ) → Delivers hs ws → many ≤ length ns → get_or ws 0 0 + many ≤ 65536 →
-    new ≡ stored 2 (held 2 ws ++ map delivery_row (all_to k (take many ns))) ws → Delivers (hs ++ all_to k (take many ns)) new
-delivered_holds hs ws new ns k many h l b e =
+pub delivered_holds : (hs : List Delivery) (ws new ns : List ℕ) (k : ℕ) → Delivers hs ws → get_or ws 0 0 + length ns ≤ 65536 →
+    new ≡ stored 2 (held 2 ws ++ map delivery_row (all_to k ns)) ws → Delivers (hs ++ all_to k ns) new
+delivered_holds hs ws new ns k h b e =
     let c = delivers_count hs ws h in
     let n = length-map hs delivery_row in
-    let o = length-map (all_to k (take many ns)) delivery_row in
-    let p = all_to_length k many ns l in
+    let o = length-map (all_to k ns) delivery_row in
+    let p = all_to_length k ns in
     let a = held_laid 2 131073 (map delivery_row hs) (wide_deliveries hs) in
-    let s = stored_laid 2 131073 (map delivery_row hs) (map delivery_row hs ++ map delivery_row (all_to k (take many ns))) (wide_deliveries hs) (omega arith) in
-    let m = map-append delivery_row hs (all_to k (take many ns)) in
-    record { words = e ∙ rw (h.words, a, s, m) refl; fits = omega (arith, length-append hs (all_to k (take many ns))) }
+    let s = stored_laid 2 131073 (map delivery_row hs) (map delivery_row hs ++ map delivery_row (all_to k ns)) (wide_deliveries hs) (omega arith) in
+    let m = map-append delivery_row hs (all_to k ns) in
+    record { words = e ∙ rw (h.words, a, s, m) refl; fits = omega (arith, length-append hs (all_to k ns)) }
 
 -- how many deliveries there are, and each of them
 pub deliveries_count : (ws : List ℕ) → length (deliveries ws) ≡ get_or ws 0 0

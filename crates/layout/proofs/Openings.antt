@@ -1,17 +1,9 @@
 -- What an opening's checks come to: where no broker is found loose, each hangs on one before it.
-use Rattle.std.proofs.Common.{◌≡◌, ℕ, zero, suc, ◌+◌, ◌-◌, ◌<◌, ◌≤◌, Bool, true, false, cond, ltb, ◌⊎◌, List, ◌∷◌, ◌++◌, length, get_or, take, drop, replicate, Some, None, refl, ap, inl, inr, arith, rules}
+use Rattle.std.proofs.Common.{◌≡◌, ℕ, zero, suc, ◌+◌, ◌-◌, ◌<◌, ◌≤◌, Bool, true, false, ltb, ◌⊎◌, List, ◌∷◌, ◌++◌, length, get_or, take, drop, replicate, Some, None, Option, MatchOption, sym, refl, ap, inl, inr, arith, rules}
 use Rattle.std.proofs.lemmas.List.{places, same_lists, get_or_past, get_or_default}
 use Rattle.std.proofs.lemmas.Bool.{cases_order}
 use Rattle.std.proofs.lemmas.Bool.Decides.{nat_tests}
 use Rattle.layout.specs.Opening.{HangsTogether, hangs, first_loose, hung_of, FindsTheFirstLoose}
-
--- one broker more
-pub loose_more : (given : List ℕ) (b n : ℕ) → 0 < n → first_loose given b n ≡ cond (hangs given b) (first_loose given (b + 1) (n - 1)) (Some b)
-loose_more given b zero h = grind arith
-loose_more given b (suc n) h =
-    let e : suc b ≡ b + 1 = omega arith in
-    let f : suc n - 1 ≡ n = omega arith in
-    cc
 
 -- a broker with none given for it is loose
 pub hangs_past : (given : List ℕ) (b : ℕ) → length given < b → hangs given b ≡ false
@@ -40,6 +32,32 @@ none_loose given b (suc n) k e p q =
     go false h o r =
         let z : ◌≡◌ {A = ℕ} 0 1 = cc in
         absurd (omega arith)
+
+-- .. and where each hangs on one before it none is loose; the first that does not is the first that is
+loose_none : (given : List ℕ) (b n : ℕ) → ((k : ℕ) → b ≤ k → k < b + n → hangs given k ≡ true) → first_loose given b n ≡ None
+loose_none given b zero h = refl
+loose_none given b (suc n) h =
+    let r = loose_none given (suc b) n (λ k p q. h k (omega arith) (omega arith)) in
+    let t = h b (omega arith) (omega arith) in
+    cc
+
+loose_some : (given : List ℕ) (b n i : ℕ) → b ≤ i → i < b + n → hangs given i ≡ false → ((k : ℕ) → b ≤ k → k < i → hangs given k ≡ true) → first_loose given b n ≡ Some i
+loose_some given b zero i p q l h = absurd (omega arith)
+loose_some given b (suc n) i p q l h = go (cases_order b i) (λ e. loose_some given (suc b) n i e (omega arith) l (λ k x y. h k (omega arith) y))
+  where
+    go : (b ≡ i) ⊎ ((b < i) ⊎ (i < b)) → (suc b ≤ i → first_loose given (suc b) n ≡ Some i) → first_loose given b (suc n) ≡ Some i
+    go (inl e) r = cc
+    go (inr (inl e)) r =
+        let u = r (omega arith) in
+        let t = h b (omega arith) e in
+        cc
+    go (inr (inr e)) r = absurd (omega arith)
+
+pub loose_found : (given : List ℕ) (brokers : ℕ) (r : Option ℕ) →
+    MatchOption r ((k : ℕ) → 1 ≤ k → k < brokers → hangs given k ≡ true) (λ i. (1 ≤ i) × (i < brokers) × (hangs given i ≡ false) × ((k : ℕ) → 1 ≤ k → k < i → hangs given k ≡ true)) →
+    r ≡ first_loose given 1 (brokers - 1)
+loose_found given brokers None h = sym (loose_none given 1 (brokers - 1) (λ k p q. h k p (omega arith)))
+loose_found given brokers (Some i) h = sym (loose_some given 1 (brokers - 1) i h.0 (omega arith) h.2 h.3)
 
 -- the first n numbers of a row, copied into a cleared one
 copied : (k n : ℕ) (xs : List ℕ) → n ≤ length xs → n ≤ k → take n xs ++ drop n (replicate k 0) ≡ take k (take n xs ++ replicate (suc k) 0)

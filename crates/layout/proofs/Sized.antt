@@ -12,13 +12,10 @@ subscribers_size o = ap (λ n. 1 + n) (mul_comm o.subscribers (1 + 2 * o.ranges)
 pub table_size : (o : Opening) → table_words o.ranges o.brokers o.subscribers ≡ 1 + 2 * o.ranges * filters_room o
 table_size o = ap (λ n. 1 + n) (mul_comm (filters_room o) (2 * o.ranges))
 
-pub announced_size : (o : Opening) → size_of (plan_of o) 2 ≡ 1 + 2 * o.ranges * filters_room o
+-- the tables that were announced, and those that were learned
+pub tables_size : (o : Opening) → (size_of (plan_of o) 2 ≡ 1 + 2 * o.ranges * filters_room o) × (size_of (plan_of o) 3 ≡ 1 + 2 * o.ranges * filters_room o)
 unfolding size_of
-announced_size o = table_size o
-
-pub learned_size : (o : Opening) → size_of (plan_of o) 3 ≡ 1 + 2 * o.ranges * filters_room o
-unfolding size_of
-learned_size o = table_size o
+tables_size o = (table_size o, table_size o)
 
 pub channel_size : (o : Opening) → size_of (plan_of o) 4 ≡ 2 + (2 + 2 * o.ranges) * o.messages
 unfolding size_of

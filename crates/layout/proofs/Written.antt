@@ -22,7 +22,7 @@ use Rattle.layout.specs.Mail.{Carries}
 use Rattle.layout.specs.State.{Encodes}
 use Rattle.layout.specs.Changed.{with_announced, with_table, with_channel, with_numbers, with_arrived, with_deliveries}
 use Rattle.layout.specs.declared.opening.Opening.{Opening}
-use Rattle.layout.proofs.Sized.{subscribers_size, announced_size, learned_size, channel_size}
+use Rattle.layout.proofs.Sized.{subscribers_size, tables_size, channel_size}
 use Rattle.layout.proofs.Carried.{carries_length}
 use Rattle.layout.proofs.Channels.{links}
 use Rattle.layout.proofs.Frames.{part_within, part_written, part_kept}
@@ -208,7 +208,7 @@ module _ (o : Opening) (memory : List ℕ) (s : Network) (h : Encodes o memory s
       Encodes o (with_part (plan_of o) memory 2 (link a b) ys) (with_announced s a b fs)
   unfolding many_of size_of
   put_announced a b p fs ys q =
-      let l = length_kept (filters_room o) o.ranges fs ys q ∙ sym (announced_size o) in
+      let l = length_kept (filters_room o) o.ranges fs ys q ∙ sym (tables_size o).0 in
       let r = rest o memory ys 2 (link a b) h.whole (link_within_o o a b p) l s h in
       record {
         whole = r.whole;
@@ -227,7 +227,7 @@ module _ (o : Opening) (memory : List ℕ) (s : Network) (h : Encodes o memory s
       Encodes o (with_part (plan_of o) memory 3 (link a b) ys) (with_table s b a fs)
   unfolding many_of size_of
   put_learned a b p fs ys q =
-      let l = length_kept (filters_room o) o.ranges fs ys q ∙ sym (learned_size o) in
+      let l = length_kept (filters_room o) o.ranges fs ys q ∙ sym (tables_size o).1 in
       let r = rest o memory ys 3 (link a b) h.whole (link_within_o o a b p) l s h in
       record {
         whole = r.whole;

@@ -1,7 +1,7 @@
 // The commands that a network takes.
 use filter::{Filter, Notice};
 
-#[derive(Clone, Copy)]
+#[derive(Clone, Copy, PartialEq, Eq, Debug)]
 pub enum Command {
     // A subscriber comes to a broker, with a number and a filter.
     Join {

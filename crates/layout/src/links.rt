@@ -1,9 +1,10 @@
 // Who is beside whom in an opening's tree, and the numbers of the channels between them.
-ghost use Rattle.std.specs.Prelude.{◌≡◌, ◌-◌, ◌<◌, ◌≤◌, ◌++◌, length, drop};
+ghost use Rattle.std.specs.Prelude.{◌≡◌, ◌-◌, ◌<◌};
 ghost use Rattle.model.specs.Tree.{neighbours};
 ghost use Rattle.layout.specs.Links.{tree_of, link, Links};
 
 use crate::Opening;
+use arrayvec::ArrayVec;
 
 // The number of the channel from one broker to another beside it.
 pub fn link(from: usize, to: usize) -> usize
@@ -20,31 +21,24 @@ pub fn link(from: usize, to: usize) -> usize
 }
 
 impl Opening {
-    // Writes the brokers beside one, in the order of telling, and says how many they are: the one that it hangs on, then those that hang on it by
-    // number.
-    pub fn beside(&self, broker: usize, out: &mut [u64]) -> usize
-        requires there { broker < self.now.brokers }
-        requires room { self.now.brokers ≤ length out.old }
-        ensures counted { result ≡ length (neighbours (tree_of self.now.hung (self.now.brokers - 1)) broker) }
-        ensures words { out.new ≡ neighbours (tree_of self.now.hung (self.now.brokers - 1)) broker ++ drop result out.old }
+    // The brokers beside one, in the order of telling: the one that it hangs on, then those that hang on it by number.
+    pub fn beside(&self, broker: usize) -> ArrayVec<u64, 16>
+        requires { broker < self.now.brokers }
+        ensures { result.items ≡ neighbours (tree_of self.now.hung (self.now.brokers - 1)) broker }
     {
-        let mut many = 0;
+        let mut beside = ArrayVec::new();
         if broker > 0 {
-            out[0] = u64::from(self.hung[broker]);
-            many = 1;
+            beside.push(u64::from(self.hung[broker]));
         }
         for k in 1..self.brokers {
             if usize::from(self.hung[k]) == broker {
-                out[many] = k as u64;
-                many += 1;
+                beside.push(k as u64);
             }
         }
-        many
+        beside
     }
 }
 
-pub fn links_stands() -> u8
+pub fn links_stands()
     ensures { Links }
-{
-    0
-}
+{}

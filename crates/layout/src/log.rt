@@ -1,5 +1,5 @@
 // Parts that only grow, in lent words: a count, then rows, the oldest first; unused words are zero.
-ghost use Rattle.std.specs.Prelude.{◌≡◌, ℕ, ◌+◌, ◌<◌, ◌≤◌, List, [], ◌∷◌, ◌++◌, map, length, take, MatchOption, slice_index};
+ghost use Rattle.std.specs.Prelude.{◌≡◌, ℕ, ◌+◌, ◌<◌, ◌≤◌, List, [], ◌∷◌, ◌++◌, map, length, MatchOption, slice_index};
 ghost use Rattle.cover.specs.Table.{held, stored, RoomForOne};
 ghost use Rattle.model.specs.Tree.{has};
 ghost use Rattle.model.specs.Model.{Delivery as Done};
@@ -37,22 +37,18 @@ pub fn lists(log: &[u64], number: u64) -> bool
     requires { (length log.now ≡ 4097) × (slice_index log.now 0 ≤ 4096) }
     ensures { result ≡ has (numbers log.now) number }
 {
-    for i in 0..log[0] as usize {
-        if log[1 + i] == number {
-            return true;
-        }
-    }
-    false
+    let count = log[0] as usize;
+    log[1..1 + count].contains(&number)
 }
 
-// Writes a delivery of the notice to each of the first numbers of a list, in their order.
-pub fn deliver(log: &mut [u64], notice: u64, whom: &[u64], many: usize)
-    requires { (length log.old ≡ 131073) × (many ≤ length whom.now) × (slice_index log.old 0 + many ≤ 65536) }
-    ensures words { log.new ≡ stored 2 (held 2 log.old ++ map delivery_row (all_to notice (take many whom.now))) log.old }
-    ensures holds { (hs : List Done) → Delivers hs log.old → Delivers (hs ++ all_to notice (take many whom.now)) log.new }
+// Writes a delivery of the notice to each of these subscribers, in their order.
+pub fn deliver(log: &mut [u64], notice: u64, whom: &[u64])
+    requires { (length log.old ≡ 131073) × (slice_index log.old 0 + length whom.now ≤ 65536) }
+    ensures words { log.new ≡ stored 2 (held 2 log.old ++ map delivery_row (all_to notice whom.now)) log.old }
+    ensures holds { (hs : List Done) → Delivers hs log.old → Delivers (hs ++ all_to notice whom.now) log.new }
 {
-    for i in 0..many {
-        push(log, &[notice, whom[i]]);
+    for &subscriber in whom {
+        push(log, &[notice, subscriber]);
     }
 }
 

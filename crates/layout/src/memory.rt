@@ -6,11 +6,19 @@ ghost use Rattle.layout.specs.Parts.{plan_of};
 
 use crate::{Opening, Refusal};
 
-// The numbers of 4,096 notices, and their count.
-pub const NOTICES: usize = 1 + 4096;
+// How many notices' numbers are kept, and how many deliveries.
+pub const MOST_NOTICES: usize = 4096;
 
-// 65,536 deliveries, a notice and a subscriber each, and their count.
-pub const DELIVERIES: usize = 1 + 2 * 65536;
+pub const MOST_DELIVERIES: usize = 65536;
+
+// The words of the numbers of notices, and their count.
+pub const NOTICES: usize = 1 + MOST_NOTICES;
+
+// The words of the deliveries, a notice and a subscriber each, and their count.
+pub const DELIVERIES: usize = 1 + 2 * MOST_DELIVERIES;
+
+// The words of the largest table that there can be: a count and 975 filters of eight ranges.
+pub const LARGEST_TABLE: usize = 1 + 975 * 16;
 
 pub fn subscribers_words(opening: &Opening) -> usize
     ensures value { result ≡ subscribers_words opening.now.ranges opening.now.subscribers }
@@ -56,8 +64,6 @@ impl Opening {
     }
 }
 
-pub fn parts_lie_apart_stands() -> u8
+pub fn parts_lie_apart_stands()
     ensures { PartsLieApart }
-{
-    0
-}
+{}

@@ -5,7 +5,7 @@ ghost use Rattle.layout.specs.Opening.{Valid, first_loose, opening_refusal, hung
 use crate::Refusal;
 
 // How many subscribers a broker and how many messages a channel has room for.
-#[derive(Clone, Copy)]
+#[derive(Clone, Copy, PartialEq, Eq, Debug)]
 pub struct Rooms {
     pub subscribers: usize,
     pub messages: usize,
@@ -19,7 +19,7 @@ impl Rooms {
     };
 }
 
-#[derive(Clone, Copy)]
+#[derive(Clone, Copy, PartialEq, Eq, Debug)]
 pub struct Opening {
     // How many ranges a filter has, and numbers a notice.
     pub ranges: usize,
@@ -36,12 +36,7 @@ pub struct Opening {
 fn first_loose(given: &[u8], brokers: usize) -> Option<usize>
     ensures { result ≡ first_loose given.now 1 (brokers - 1) }
 {
-    for b in 1..brokers {
-        if b > given.len() || given[b - 1] as usize >= b {
-            return Some(b);
-        }
-    }
-    None
+    (1..brokers).find(|&b| b > given.len() || given[b - 1] as usize >= b)
 }
 
 // The brokers hung on, each at its broker's place.
@@ -74,10 +69,10 @@ impl Opening {
             subscribers,
             messages,
         } = rooms;
-        if ranges < 1 || ranges > 8 || brokers < 1 || brokers > 16 {
+        if !(1..=8).contains(&ranges) || !(1..=16).contains(&brokers) {
             return Err(Refusal::BadOpening(0));
         }
-        if subscribers < 1 || subscribers > 64 || messages < 1 || messages > 32768 {
+        if !(1..=64).contains(&subscribers) || !(1..=32768).contains(&messages) {
             return Err(Refusal::BadOpening(0));
         }
         if let Some(b) = first_loose(given, brokers) {
@@ -94,8 +89,6 @@ impl Opening {
     }
 }
 
-pub fn finds_the_first_loose_stands() -> u8
+pub fn finds_the_first_loose_stands()
     ensures { FindsTheFirstLoose }
-{
-    0
-}
+{}

@@ -7,7 +7,7 @@ ghost use Rattle.layout.specs.Kinds.{kind_number};
 use crate::{Opening, memory};
 
 // What a part of the memory holds.
-#[derive(Clone, Copy)]
+#[derive(Clone, Copy, PartialEq, Eq, Debug)]
 pub enum Kind {
     // The subscribers of a broker.
     Subscribers,
@@ -25,7 +25,7 @@ pub enum Kind {
 }
 
 // The words of a part: from one to before another.
-#[derive(Clone, Copy)]
+#[derive(Clone, Copy, PartialEq, Eq, Debug)]
 pub struct Span {
     pub at: usize,
     pub end: usize,

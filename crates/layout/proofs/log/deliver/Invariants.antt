@@ -3,5 +3,5 @@ use Rattle.cover.specs.Table.{held, stored}
 use Rattle.layout.specs.Logs.{delivery_row, all_to}
 use Rattle.layout.proofs.log.deliver.Given as goal
 
-abbrev pub invariant-loop-i : goal.invariant-loop-i
-invariant-loop-i l = l.log ≡ stored 2 (held 2 l.initial.log ++ map delivery_row (all_to l.notice (take l.i l.whom))) l.initial.log
+abbrev pub invariant-loop-subscriber : goal.invariant-loop-subscriber
+invariant-loop-subscriber l = l.log ≡ stored 2 (held 2 l.initial.log ++ map delivery_row (all_to l.notice (take l.subscriber-index l.whom))) l.initial.log

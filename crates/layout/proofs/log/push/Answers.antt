@@ -1,12 +1,6 @@
-use Rattle.std.proofs.Common.{◌≡◌, ◌+◌, ◌-◌, ◌*◌, length, get_or, mul-le-mul_right, arith, rules}
+use Rattle.std.proofs.Common.{◌≡◌, ◌+◌, ◌-◌, ◌*◌, length, get_or, arith}
 use Rattle.cover.proofs.TableLaws.{stored_pushed}
 use Rattle.layout.proofs.log.push.Goals as goal
-
--- a row has a word at least, so there are no more rows than words
-pub overflow_add-log : goal.overflow_add-log
-overflow_add-log c =
-    let p = mul-le-mul_right (get_or c.args.log.now 0 0) c.requires.0 in
-    search rules
 
 pub returns : goal.returns
 returns c =

@@ -1,17 +1,6 @@
-use Rattle.std.proofs.Common.{arith}
 use Rattle.layout.specs.declared.parts.Kind.TheVariants.{Subscribers, Arrived, Announced, Learned, Channel, Posted, Deliveries}
-use Rattle.layout.proofs.Spans.{before_few, first_is}
+use Rattle.layout.proofs.Spans.{first_is}
 use Rattle.layout.proofs.parts.first.Goals as goal
-
-pub overflow_add-posted-2 : goal.overflow_add-posted-2
-overflow_add-posted-2 c =
-    let b = before_few c.args.opening.now.brokers c.subscribers_words-subscribers.result c.table_words-table.result c.channel_words-channel.result (omega arith) (omega arith) (omega arith) (omega arith) in
-    omega arith
-
-pub overflow_add-result-in-Deliveries : goal.overflow_add-result-in-Deliveries
-overflow_add-result-in-Deliveries c =
-    let b = before_few c.args.opening.now.brokers c.subscribers_words-subscribers.result c.table_words-table.result c.channel_words-channel.result (omega arith) (omega arith) (omega arith) (omega arith) in
-    omega arith
 
 pub returns-in-Subscribers : goal.returns-in-Subscribers
 returns-in-Subscribers c =
