@@ -20,7 +20,6 @@ use Rattle.layout.specs.Parts.{tree, filters_room}
 use Rattle.layout.specs.State.{network_of}
 use Rattle.routing.specs.Around.{Ready}
 use Rattle.layout.specs.declared.opening.Opening.{Opening}
-use Rattle.routing.specs.declared.around.Around.{Around}
 use Rattle.layout.proofs.Written.{tree_length, tree_hung}
 
 -- the filters of subscribers each of whose filters has w words
@@ -39,20 +38,19 @@ pub announces_alike : (own : List Subscriber) (table : ℕ → List Filter) (ns 
 unfolding broker_announces to_announce
 announces_alike own table ns n = ap (λ fs. maximal (filters_of own ++ fs)) (others_alike table n ns)
 
-module _ (o : Opening) (memory : List ℕ) (a : Around) (ready : Ready o memory a) (n : ℕ) (beside : edge (tree o) a.broker n ≡ true) where
+module _ (o : Opening) (memory : List ℕ) (b : ℕ) (ready : Ready o memory b) (n : ℕ) (beside : edge (tree o) b n ≡ true) where
   -- all that the broker knows but from n fits a table
   pub known_fits :
-      length (filters_of ((network_of o memory).subscribers a.broker) ++ from_others ((network_of o memory).learned a.broker) n (neighbours (tree o) a.broker))
+      length (filters_of ((network_of o memory).subscribers b) ++ from_others ((network_of o memory).learned b) n (neighbours (tree o) b))
       ≤ filters_room o
   known_fits =
-      let b = a.broker in
       let s = network_of o memory in
       let own = filters_of (s.subscribers b) in
       let more = from_others (s.learned b) n (neighbours (tree o) b) in
       let back = edge_sym (tree o) n b ∙ beside in
       let p = length-append own more in
       let q = length_filters (s.subscribers b) in
-      let k = (ready.formed.subscribers b ready.around.there).fits in
+      let k = (ready.formed.subscribers b ready.there).fits in
       let r = room (tree o) (tree_hung o) o.subscribers n b back (s.learned b) ready.bounded in
       let f = behind_fewer (tree o) (tree_hung o) n b back in
       let m = mul-le-mul_left (suc o.subscribers) f in
@@ -60,24 +58,23 @@ module _ (o : Opening) (memory : List ℕ) (a : Around) (ready : Ready o memory 
       let x : suc o.subscribers * length (tree o) ≡ (o.brokers - 1) * (o.subscribers + 1) = rw (e, add-one) (mul_comm (suc o.subscribers) (o.brokers - 1)) in
       omega arith
 
-  pub announcement_fits : length (announcement (tree o) (network_of o memory) a.broker n) ≤ filters_room o
+  pub announcement_fits : length (announcement (tree o) (network_of o memory) b n) ≤ filters_room o
   unfolding to_announce
   announcement_fits =
-      let own = filters_of ((network_of o memory).subscribers a.broker) in
-      let more = from_others ((network_of o memory).learned a.broker) n (neighbours (tree o) a.broker) in
+      let own = filters_of ((network_of o memory).subscribers b) in
+      let more = from_others ((network_of o memory).learned b) n (neighbours (tree o) b) in
       let l = length_maximal (own ++ more) in
       let k = known_fits in
       omega arith
 
-  pub announcement_wide : Wide (2 * o.ranges) (announcement (tree o) (network_of o memory) a.broker n)
+  pub announcement_wide : Wide (2 * o.ranges) (announcement (tree o) (network_of o memory) b n)
   unfolding to_announce
   announcement_wide =
-      let b = a.broker in
       let s = network_of o memory in
       let own = filters_of (s.subscribers b) in
       let more = from_others (s.learned b) n (neighbours (tree o) b) in
       wide_maximal (2 * o.ranges) (own ++ more)
-      (wide_append (2 * o.ranges) own more (wide_filters (2 * o.ranges) (s.subscribers b) (ready.formed.subscribers b ready.around.there).wide)
+      (wide_append (2 * o.ranges) own more (wide_filters (2 * o.ranges) (s.subscribers b) (ready.formed.subscribers b ready.there).wide)
       (λ f h.
       let (m, j, ne, k) = from_others_find f (s.learned b) n (neighbours (tree o) b) h in
       let e = sym (neighbours_edge (tree o) b m (edge_within (tree o) b n (tree_hung o) beside).0) ∙ j in

@@ -17,7 +17,6 @@ use Rattle.layout.specs.Parts.{tree, plan_of, filters_room}
 use Rattle.layout.specs.State.{network_of, Formed}
 use Rattle.routing.specs.Around.{Ready}
 use Rattle.layout.specs.declared.opening.Opening.{Opening}
-use Rattle.routing.specs.declared.around.Around.{Around}
 use Rattle.routing.proofs.Announced.{announcement_fits, announcement_wide}
 use Rattle.layout.proofs.Sized.{table_size}
 use Rattle.layout.proofs.Written.{lent_part}
@@ -31,13 +30,18 @@ kept_whole room m fs ws h =
     rw (c, l) (omega arith)
 
 -- the filters of an opening's table take no more words than those of the largest that there can be
-pub kept_most : (o : Opening) (fs : List Filter) (ws : List ℕ) → Keeps (filters_room o) o.ranges fs ws → 2 * o.ranges * get_or ws 0 0 ≤ 15600
-kept_most o fs ws h =
+pub table_most : (o : Opening) → 1 + 2 * o.ranges * filters_room o ≤ 15601
+table_most o =
     let v = o.valid.0.1 in
     let b = o.valid.1.1 in
     let r = o.valid.2.1 in
     let p : (o.brokers - 1) * (o.subscribers + 1) ≤ 15 * 65 = mul-le-mul {n₂ = 15} {m₂ = 65} (omega arith) (omega arith) in
     let q : 2 * o.ranges * ((o.brokers - 1) * (o.subscribers + 1)) ≤ 16 * 975 = mul-le-mul {n₂ = 16} {m₂ = 975} (omega arith) p in
+    omega arith
+
+pub kept_most : (o : Opening) (fs : List Filter) (ws : List ℕ) → Keeps (filters_room o) o.ranges fs ws → 2 * o.ranges * get_or ws 0 0 ≤ 15600
+kept_most o fs ws h =
+    let q = table_most o in
     let w = kept_whole (filters_room o) o.ranges fs ws h in
     let l = length_kept (filters_room o) o.ranges fs ws h in
     omega arith
@@ -52,11 +56,11 @@ last_kept o memory formed a b beside i at stop l s e =
 
 -- a table that was found holds the announcement and nothing else
 pub found_kept :
-    (o : Opening) (memory : List ℕ) (a : Around) → Ready o memory a → (n : ℕ) → edge (tree o) a.broker n ≡ true → (words : ℕ) (new : List ℕ) →
-    words ≡ table_words o.ranges o.brokers o.subscribers → new ≡ laid (2 * o.ranges) words (announcement (tree o) (network_of o memory) a.broker n) →
-    Keeps (filters_room o) o.ranges (announcement (tree o) (network_of o memory) a.broker n) new
-found_kept o memory a ready n beside words new l e =
-    record { words = e ∙ ap (λ k. laid (2 * o.ranges) k (announcement (tree o) (network_of o memory) a.broker n)) (l ∙ table_size o); wide = announcement_wide o memory a ready n beside; fits = announcement_fits o memory a ready n beside }
+    (o : Opening) (memory : List ℕ) (b : ℕ) → Ready o memory b → (n : ℕ) → edge (tree o) b n ≡ true → (words : ℕ) (new : List ℕ) →
+    words ≡ table_words o.ranges o.brokers o.subscribers → new ≡ laid (2 * o.ranges) words (announcement (tree o) (network_of o memory) b n) →
+    Keeps (filters_room o) o.ranges (announcement (tree o) (network_of o memory) b n) new
+found_kept o memory b ready n beside words new l e =
+    record { words = e ∙ ap (λ k. laid (2 * o.ranges) k (announcement (tree o) (network_of o memory) b n)) (l ∙ table_size o); wide = announcement_wide o memory b ready n beside; fits = announcement_fits o memory b ready n beside }
 
 -- the filters of one table that another lacks, counted and written over the front of a row, by the filters that the tables keep
 pub record Lacks (room m : ℕ) (fs gs : List Filter) (k : ℕ) (out : List ℕ) : Type 0 where

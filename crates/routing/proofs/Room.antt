@@ -1,24 +1,19 @@
 -- Whether the channels from a broker have room for what is to be sent on them, one neighbour after the other.
 use Rattle.std.proofs.Common.{◌≡◌, ℕ, suc, ◌+◌, ◌-◌, ◌<◌, ◌≤◌, Bool, true, false, cond, eqb, leb, ◌⊎◌, List, [], ◌∷◌, length, get_or, drop, Some, None, Option, sym, refl, ap, ◌∙◌, inl, inr, mul-le-mul_right, arith, length-append}
-use Rattle.std.proofs.lemmas.List.{drop_more, drop_all, get_or-take, length-take-le}
+use Rattle.std.proofs.lemmas.List.{drop_more, drop_all}
 use Rattle.std.proofs.lemmas.Bool.{leb-true, eqb-true, or_cases}
 use Rattle.filter.specs.Filter.{Filter}
 use Rattle.cover.specs.Maximal.{minus}
 use Rattle.channel.specs.declared.batch.Change.{Change}
 use Rattle.channel.specs.declared.batch.Change.TheVariants.{Add, Cut}
-use Rattle.model.specs.Tree.{edge, has, neighbours}
+use Rattle.model.specs.Tree.{has}
 use Rattle.model.specs.Model.{Message, adds, cuts, batch}
-use Rattle.model.proofs.Tree.{neighbours_edge}
-use Rattle.model.proofs.OneByOne.{getD_has}
-use Rattle.layout.specs.Parts.{tree, filters_room}
+use Rattle.layout.specs.Parts.{filters_room}
 use Rattle.layout.specs.Mail.{telling}
 use Rattle.routing.specs.Rooms.{first, full}
-use Rattle.routing.specs.Around.{Surrounds}
 use Rattle.layout.specs.declared.opening.Opening.{Opening}
-use Rattle.routing.specs.declared.around.Around.{Around}
 use Rattle.layout.specs.declared.refusal.Refusal.{Refusal}
 use Rattle.layout.specs.declared.refusal.Refusal.TheVariants.{ChannelFull}
-use Rattle.layout.proofs.Written.{tree_length}
 
 -- the last of the rules is the answer where none before it applies
 pub last_rule : (r : Option Refusal) → first (r ∷ []) ≡ r
@@ -88,30 +83,3 @@ module _ (room : ℕ) (channel out : ℕ → List Message) where
           rw (sym p) (leb-true (length (channel k) + length (out k)) room e)
       go true e g (inr i) r = r g i
       go false e g i r = absurd (let z : ◌≡◌ {A = ℕ} 0 1 = cc in omega arith)
-
--- the brokers around one are those beside it in the tree
-module _ (o : Opening) (a : Around) (h : Surrounds o a) where
-  pub around_many : length (neighbours (tree o) a.broker) ≡ a.many
-  around_many =
-      let f = h.few in
-      let r = h.rooms.0 in
-      let l = length-take-le a.many a.neighbours (omega arith) in
-      sym (ap length h.beside) ∙ l
-
-  pub around_at : (j : ℕ) → j < a.many → get_or a.neighbours j 0 ≡ get_or (neighbours (tree o) a.broker) j 0
-  around_at j l = sym (get_or-take a.many a.neighbours j 0 l) ∙ ap (λ ns. get_or ns j 0) h.beside
-
-  pub around_within : a.broker ≤ length (tree o)
-  around_within =
-      let t = h.there in
-      let l = tree_length o in
-      omega arith
-
-  pub around_has : (j : ℕ) → j < a.many → has (neighbours (tree o) a.broker) (get_or a.neighbours j 0) ≡ true
-  around_has j l =
-      let m = around_many in
-      let e = around_at j l in
-      rw e (getD_has (neighbours (tree o) a.broker) j (omega arith))
-
-  pub around_edge : (j : ℕ) → j < a.many → edge (tree o) a.broker (get_or a.neighbours j 0) ≡ true
-  around_edge j l = sym (neighbours_edge (tree o) a.broker (get_or a.neighbours j 0) around_within) ∙ around_has j l

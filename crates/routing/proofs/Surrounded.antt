@@ -1,25 +1,30 @@
--- Those beside a broker of an opening, and a pass that writes where the tables lie that were learned from each.
-use Rattle.std.proofs.Common.{◌≡◌, ℕ, ◌+◌, ◌<◌, ◌≤◌, true, List, ◌++◌, map, length, get_or, take, set, sym, ap, ◌∙◌, arith, length-set}
-use Rattle.std.proofs.lemmas.List.{get_or_append_left, take_at, take_more, take_more_set, map_push}
+-- Those beside a broker of an opening, and a pass that finds the table that was learned from each.
+use Rattle.std.proofs.Common.{◌≡◌, ℕ, ◌+◌, ◌<◌, ◌≤◌, true, List, [], ◌∷◌, ◌++◌, map, length, get_or, take, sym, ap, ◌∙◌, arith}
+use Rattle.std.specs.List.{between, AllByRecursion}
+use Rattle.std.proofs.lemmas.List.{length_push, map_push, take_more}
+use Rattle.broker.specs.Announcing.{Keeps}
+use Rattle.broker.specs.declared.neighbour.Neighbour.{Neighbour}
 use Rattle.model.specs.Tree.{neighbours, edge}
 use Rattle.model.proofs.Tree.{edge_sym, neighbours_edge}
 use Rattle.model.proofs.OneByOne.{getD_has}
-use Rattle.layout.specs.Parts.{tree}
+use Rattle.layout.specs.Links.{link}
+use Rattle.layout.specs.Plan.{size_of, start_of}
+use Rattle.layout.specs.Parts.{tree, plan_of, filters_room}
+use Rattle.layout.specs.State.{network_of, Formed}
 use Rattle.layout.specs.declared.opening.Opening.{Opening}
 use Rattle.layout.proofs.Besides.{told_all, told_few}
-use Rattle.layout.proofs.Written.{tree_length}
+use Rattle.layout.proofs.Written.{lent_part, tree_length}
+
+-- what holds of each of a list, and of one more
+all_push : {A : Type 0} (P : A → Type 0) (xs : List A) (x : A) → AllByRecursion P xs → P x → AllByRecursion P (xs ++ x ∷ [])
+all_push P [] x h p = (p, tt)
+all_push P (y ∷ xs) x h p = (h.0, all_push P xs x h.1 p)
 
 -- what stands in the row of those beside a broker hangs together with it
 pub neighbour_edge : (o : Opening) (b j : ℕ) → b < o.brokers → j < length (neighbours (tree o) b) → edge (tree o) b (get_or (neighbours (tree o) b) j 0) ≡ true
 neighbour_edge o b j h l =
     let e = tree_length o in
     sym (neighbours_edge (tree o) b (get_or (neighbours (tree o) b) j 0) (omega arith)) ∙ getD_has (neighbours (tree o) b) j l
-
--- .. also where the row stands at the front of another, and the other way round
-pub found_edge : (o : Opening) (b j : ℕ) (out rest : List ℕ) → b < o.brokers → out ≡ neighbours (tree o) b ++ rest → j < length (neighbours (tree o) b) → edge (tree o) (get_or out j 0) b ≡ true
-found_edge o b j out rest h e l =
-    let g = ap (λ xs. get_or xs j 0) e ∙ get_or_append_left (neighbours (tree o) b) rest 0 j l in
-    rw g (edge_sym (tree o) (get_or (neighbours (tree o) b) j 0) b ∙ neighbour_edge o b j h l)
 
 -- there are no more of them than brokers
 pub neighbours_few : (o : Opening) (b : ℕ) → length (neighbours (tree o) b) ≤ 16
@@ -30,25 +35,32 @@ neighbours_few o b =
     let t = ap length (told_all (tree o) b) in
     omega arith
 
--- of a row of 16 words the first j are what f gives for the first j of ns
-pub record Mapped (f : ℕ → ℕ) (ns row : List ℕ) (j : ℕ) : Type 0 where
-  pub room : length row ≡ 16
-  pub words : take j row ≡ map f (take j ns)
+pub broker_within : (o : Opening) (b : ℕ) → b < o.brokers → b ≤ length (tree o)
+broker_within o b h =
+    let l = tree_length o in
+    omega arith
 
-pub mapped_more : (f : ℕ → ℕ) (ns row : List ℕ) (j x : ℕ) → Mapped f ns row j → j < length ns → j < 16 → x ≡ f (get_or ns j 0) → Mapped f ns (set row j x) (j + 1)
-mapped_more f ns row j x h l k e =
-    let r = h.room in
-    let w = h.words in
-    let s = take_more_set row j x (omega arith) in
-    let t = ap (map f) (take_more ns j 0 l) ∙ map_push f (take j ns) (get_or ns j 0) in
-    let i = length-set row j x in
-    record { room = omega arith; words = cc }
+-- the row of those beside a broker, as it is lent
+module _ (o : Opening) (b : ℕ) (there : b < o.brokers) (row : List ℕ) (beside : row ≡ neighbours (tree o) b) (j : ℕ) (l : j < length row) where
+  pub row_edge : edge (tree o) b (get_or row j 0) ≡ true
+  row_edge = rw beside (neighbour_edge o b j there (rw beside at l))
 
--- what was written to the front of a row
-pub front_taken : (ns rest out : List ℕ) (many : ℕ) → out ≡ ns ++ rest → many ≡ length ns → take many out ≡ ns
-front_taken ns rest out many e n = ap (take many) e ∙ take_at ns rest many (sym n)
+  -- .. and the other way round
+  pub row_back : edge (tree o) (get_or row j 0) b ≡ true
+  row_back = edge_sym (tree o) (get_or row j 0) b ∙ row_edge
 
-pub mapped_all : (f : ℕ → ℕ) (ns rest out row : List ℕ) (j many : ℕ) → Mapped f out row j → j ≡ many → out ≡ ns ++ rest → many ≡ length ns → take many row ≡ map f ns
-mapped_all f ns rest out row j many h e o n =
-    let t = front_taken ns rest out many o n in
-    rw (e, t) at h.words
+  -- the table that was learned from there, where it lies in the memory
+  pub table_kept : (memory : List ℕ) → Formed o memory → (i at stop : ℕ) → i ≡ link (get_or row j 0) b → at ≡ start_of (plan_of o) 3 i → stop ≡ start_of (plan_of o) 3 i + size_of (plan_of o) 3 →
+      Keeps (filters_room o) o.ranges ((network_of o memory).learned b (get_or row j 0)) (between at stop memory)
+  table_kept memory formed i at stop p q r =
+      let k = lent_part (plan_of o) 3 i at stop memory q r in
+      rw (k, p) (formed.learned (get_or row j 0) b row_back)
+
+  -- one neighbour more was found
+  pub found_more : (P : Neighbour → Type 0) (was new : List Neighbour) (x : Neighbour) → x.broker ≡ get_or row j 0 → (map (λ n. n.broker) was ≡ take j (neighbours (tree o) b)) × (AllByRecursion P was) × (length was ≤ j) → P x → new ≡ was ++ x ∷ [] →
+      (map (λ n. n.broker) new ≡ take (j + 1) (neighbours (tree o) b)) × (AllByRecursion P new) × (length new ≤ j + 1)
+  found_more P was new x is (h, all, few) p e =
+      let m = map_push (λ n. n.broker) was x in
+      let t = take_more (neighbours (tree o) b) j 0 (rw beside at l) in
+      let i : x.broker ≡ get_or (neighbours (tree o) b) j 0 = rw beside at is in
+      (ap (map (λ n. n.broker)) e ∙ (m ∙ (ap (λ ks. ks ++ x.broker ∷ []) h ∙ (ap (λ k. take j (neighbours (tree o) b) ++ k ∷ []) i ∙ sym t))), rw e (all_push P was x all p), omega (arith, ap length e, length_push was x))

@@ -1,5 +1,5 @@
 -- A broker tells one beside it: the messages on the channel, one batch in two steps, and then the table of what was announced.
-use Rattle.std.proofs.Common.{◌≡◌, ℕ, ◌+◌, ◌-◌, ◌*◌, ◌<◌, ◌≤◌, Bool, true, false, cond, ◌&&◌, eqb, List, [], ◌∷◌, ◌++◌, length, get_or, take, None, sym, refl, ap, ◌∙◌, subst, arith, length-append}
+use Rattle.std.proofs.Common.{◌≡◌, ℕ, ◌+◌, ◌-◌, ◌*◌, ◌<◌, ◌≤◌, Bool, true, false, cond, ◌&&◌, eqb, List, ◌++◌, length, get_or, take, None, sym, refl, ap, ◌∙◌, subst, arith, length-append}
 use mathlib.Core.Path.{fun_ext}
 use borrow.Rule.Slice.PartMut.{put_mid}
 use Rattle.std.specs.List.{between}
@@ -19,7 +19,7 @@ use Rattle.model.specs.Tree.{edge, has, neighbours}
 use Rattle.model.specs.Model.{Message, Network, at2, batch, announcement, tell}
 use Rattle.model.specs.Turn.{with_told, tell_one, told_to}
 use Rattle.model.proofs.Tree.{neighbours_distinct}
-use Rattle.model.proofs.OneByOne.{told_none, told_more, told_all, told_channel, told_announced, distinct_take}
+use Rattle.model.proofs.OneByOne.{told_none, told_more, told_all, told_channel, told_announced, getD_has, distinct_take}
 use Rattle.layout.specs.Memory.{table_words}
 use Rattle.layout.specs.Parts.{tree, filters_room}
 use Rattle.layout.specs.Mail.{telling}
@@ -28,10 +28,10 @@ use Rattle.layout.specs.Changed.{with_channel, with_announced}
 use Rattle.routing.specs.Rooms.{tidings, no_room_to_tell}
 use Rattle.routing.specs.Around.{Bounded, Ready}
 use Rattle.layout.specs.declared.opening.Opening.{Opening}
-use Rattle.routing.specs.declared.around.Around.{Around}
 use Rattle.routing.proofs.Announced.{announcement_fits, announcement_wide}
 use Rattle.layout.proofs.Encoded.{reads, formed}
-use Rattle.routing.proofs.Room.{length_telling, full_none, around_many, around_at, around_within, around_has}
+use Rattle.routing.proofs.Room.{length_telling, full_none}
+use Rattle.routing.proofs.Surrounded.{broker_within}
 use Rattle.layout.proofs.Sized.{table_size}
 use Rattle.layout.proofs.Written.{tree_hung}
 
@@ -74,44 +74,54 @@ room_after o s b n memory filters adds cuts e h =
     let l = length_rows (2 * o.ranges) adds filters in
     omega arith
 
-module _ (o : Opening) (memory : List ℕ) (a : Around) (ready : Ready o memory a) (n : ℕ) (beside : edge (tree o) a.broker n ≡ true) where
+module _ (o : Opening) (memory : List ℕ) (b : ℕ) (ready : Ready o memory b) (n : ℕ) (beside : edge (tree o) b n ≡ true) where
   -- the table of what is to be announced
   pub table_is : (size : ℕ) (table : List ℕ) → size ≡ table_words o.ranges o.brokers o.subscribers →
-      table ≡ laid (2 * o.ranges) size (announcement (tree o) (network_of o memory) a.broker n) →
-      held (2 * o.ranges) table ≡ announcement (tree o) (network_of o memory) a.broker n
-  table_is size table e t = ap (held (2 * o.ranges)) t ∙ held_laid (2 * o.ranges) size _ (announcement_wide o memory a ready n beside)
+      table ≡ laid (2 * o.ranges) size (announcement (tree o) (network_of o memory) b n) →
+      held (2 * o.ranges) table ≡ announcement (tree o) (network_of o memory) b n
+  table_is size table e t = ap (held (2 * o.ranges)) t ∙ held_laid (2 * o.ranges) size _ (announcement_wide o memory b ready n beside)
 
   pub table_keeps : (size : ℕ) (table : List ℕ) → size ≡ table_words o.ranges o.brokers o.subscribers →
-      table ≡ laid (2 * o.ranges) size (announcement (tree o) (network_of o memory) a.broker n) →
+      table ≡ laid (2 * o.ranges) size (announcement (tree o) (network_of o memory) b n) →
       Keeps (filters_room o) o.ranges (held (2 * o.ranges) table) table
   table_keeps size table e t =
       subst (λ fs. Keeps (filters_room o) o.ranges fs table) (sym (table_is size table e t))
       (record {
-        words = t ∙ ap (λ k. laid (2 * o.ranges) k (announcement (tree o) (network_of o memory) a.broker n)) (e ∙ table_size o);
-        wide = announcement_wide o memory a ready n beside;
-        fits = announcement_fits o memory a ready n beside;
+        words = t ∙ ap (λ k. laid (2 * o.ranges) k (announcement (tree o) (network_of o memory) b n)) (e ∙ table_size o);
+        wide = announcement_wide o memory b ready n beside;
+        fits = announcement_fits o memory b ready n beside;
       })
 
   -- a table found in the first words of others
   pub table_lent : (size : ℕ) (words table : List ℕ) → size ≤ length words → length table ≡ length (between 0 size words) →
-      table ≡ laid (2 * o.ranges) (length (between 0 size words)) (announcement (tree o) (network_of o memory) a.broker n) →
-      between 0 size (put_mid 0 (size - 0) words table) ≡ laid (2 * o.ranges) size (announcement (tree o) (network_of o memory) a.broker n)
+      table ≡ laid (2 * o.ranges) (length (between 0 size words)) (announcement (tree o) (network_of o memory) b n) →
+      between 0 size (put_mid 0 (size - 0) words table) ≡ laid (2 * o.ranges) size (announcement (tree o) (network_of o memory) b n)
   table_lent size words table h l t =
-      let b = length-between words 0 size h in
+      let w = length-between words 0 size h in
       let z : size - 0 ≡ size = omega arith in
-      between-put_mid 0 (size - 0) words table size (omega arith) (l ∙ b) ∙ t ∙ ap (λ k. laid (2 * o.ranges) k (announcement (tree o) (network_of o memory) a.broker n)) (b ∙ z)
+      between-put_mid 0 (size - 0) words table size (omega arith) (l ∙ w) ∙ t ∙ ap (λ k. laid (2 * o.ranges) k (announcement (tree o) (network_of o memory) b n)) (w ∙ z)
+
+  -- .. and the words that then have it at their front
+  pub table_front : (size : ℕ) (words table : List ℕ) → size ≤ length words → length table ≡ length (between 0 size words) →
+      table ≡ laid (2 * o.ranges) (length (between 0 size words)) (announcement (tree o) (network_of o memory) b n) → size ≡ table_words o.ranges o.brokers o.subscribers →
+      take (table_words o.ranges o.brokers o.subscribers) (put_mid 0 (size - 0) words table)
+      ≡ laid (2 * o.ranges) (table_words o.ranges o.brokers o.subscribers) (announcement (tree o) (network_of o memory) b n)
+  table_front size words table h l t e =
+      let z : size - 0 ≡ size = omega arith in
+      let f : take size (put_mid 0 (size - 0) words table) ≡ laid (2 * o.ranges) size (announcement (tree o) (network_of o memory) b n) =
+      ap (λ k. take k (put_mid 0 (size - 0) words table)) (sym z) ∙ table_lent size words table h l t in
+      subst (λ k. take k (put_mid 0 (size - 0) words table) ≡ laid (2 * o.ranges) k (announcement (tree o) (network_of o memory) b n)) e f
 
   -- the memory after both batches and the announcement holds the network in which the broker has told n
   pub told_one : (first second last new gone table : List ℕ) (more less : ℕ) →
-      Encodes o first (with_channel (network_of o memory) a.broker n ((network_of o memory).channel a.broker n ++ telling Add (rows (2 * o.ranges) more new))) →
-      Encodes o second (with_channel (network_of o first) a.broker n ((network_of o first).channel a.broker n ++ telling Cut (rows (2 * o.ranges) less gone))) →
-      Encodes o last (with_announced (network_of o second) a.broker n (held (2 * o.ranges) table)) →
-      rows (2 * o.ranges) more new ≡ minus (announcement (tree o) (network_of o memory) a.broker n) ((network_of o memory).announced a.broker n) →
-      rows (2 * o.ranges) less gone ≡ minus ((network_of o memory).announced a.broker n) (announcement (tree o) (network_of o memory) a.broker n) →
-      held (2 * o.ranges) table ≡ announcement (tree o) (network_of o memory) a.broker n → Encodes o last (tell_one (tree o) a.broker n (network_of o memory))
+      Encodes o first (with_channel (network_of o memory) b n ((network_of o memory).channel b n ++ telling Add (rows (2 * o.ranges) more new))) →
+      Encodes o second (with_channel (network_of o first) b n ((network_of o first).channel b n ++ telling Cut (rows (2 * o.ranges) less gone))) →
+      Encodes o last (with_announced (network_of o second) b n (held (2 * o.ranges) table)) →
+      rows (2 * o.ranges) more new ≡ minus (announcement (tree o) (network_of o memory) b n) ((network_of o memory).announced b n) →
+      rows (2 * o.ranges) less gone ≡ minus ((network_of o memory).announced b n) (announcement (tree o) (network_of o memory) b n) →
+      held (2 * o.ranges) table ≡ announcement (tree o) (network_of o memory) b n → Encodes o last (tell_one (tree o) b n (network_of o memory))
   unfolding batch
   told_one first second last new gone table more less e f g p q r =
-      let b = a.broker in
       let s = network_of o memory in
       let ms = telling Add (rows (2 * o.ranges) more new) in
       let ns = telling Cut (rows (2 * o.ranges) less gone) in
@@ -124,60 +134,52 @@ module _ (o : Opening) (memory : List ℕ) (a : Around) (ready : Ready o memory 
       g
 
 -- the broker has told its first j neighbours, one after the other: before the first, after the last, and the next one
-module _ (o : Opening) (memory : List ℕ) (a : Around) (ready : Ready o memory a) where
-  pub told_first : Encodes o memory (told_to (tree o) a.broker (take 0 (neighbours (tree o) a.broker)) (network_of o memory))
-  told_first = subst (Encodes o memory) (sym (told_none (tree o) a.broker (network_of o memory))) ready.formed
+module _ (o : Opening) (memory : List ℕ) (b : ℕ) (ready : Ready o memory b) where
+  pub told_first : Encodes o memory (told_to (tree o) b (take 0 (neighbours (tree o) b)) (network_of o memory))
+  told_first = subst (Encodes o memory) (sym (told_none (tree o) b (network_of o memory))) ready.formed
 
-  module _ (j : ℕ) (at : List ℕ) (e : Encodes o at (told_to (tree o) a.broker (take j (neighbours (tree o) a.broker)) (network_of o memory))) where
-    pub told_last : a.many ≤ j → Encodes o at (tell (tree o) a.broker (network_of o memory))
+  module _ (j : ℕ) (at : List ℕ) (e : Encodes o at (told_to (tree o) b (take j (neighbours (tree o) b)) (network_of o memory))) where
+    pub told_last : length (neighbours (tree o) b) ≤ j → Encodes o at (tell (tree o) b (network_of o memory))
     told_last l =
-        let m = around_many o a ready.around in
-        let ns = neighbours (tree o) a.broker in
+        let ns = neighbours (tree o) b in
         subst (Encodes o at)
-        (ap (λ ks. told_to (tree o) a.broker ks (network_of o memory)) (take_all j ns (omega arith))
-        ∙ told_all (tree o) (tree_hung o) a.broker (around_within o a ready.around) (network_of o memory))
+        (ap (λ ks. told_to (tree o) b ks (network_of o memory)) (take_all j ns l)
+        ∙ told_all (tree o) (tree_hung o) b (broker_within o b ready.there) (network_of o memory))
         e
 
-    pub next_ready : Ready o at a
+    pub next_ready : Ready o at b
     next_ready =
         record {
           formed = formed o at _ e;
-          around = ready.around;
-          bounded = subst (λ s. Bounded o s a.broker) (sym (reads o at _ e)) ready.bounded;
+          there = ready.there;
+          bounded = subst (λ s. Bounded o s b) (sym (reads o at _ e)) ready.bounded;
         }
 
     -- the next neighbour was not told yet
-    fresh : j < a.many → has (take j (neighbours (tree o) a.broker)) (get_or a.neighbours j 0) ≡ false
+    fresh : j < length (neighbours (tree o) b) → has (take j (neighbours (tree o) b)) (get_or (neighbours (tree o) b) j 0) ≡ false
     fresh l =
-        let m = around_many o a ready.around in
-        let p = around_at o a ready.around j l in
-        rw p (distinct_take (neighbours (tree o) a.broker) j (neighbours_distinct (tree o) a.broker (tree_hung o) (around_within o a ready.around)) (omega arith))
+        distinct_take (neighbours (tree o) b) j (neighbours_distinct (tree o) b (tree_hung o) (broker_within o b ready.there)) l
 
-    pub next_room : no_room_to_tell o (network_of o memory) a.broker ≡ None → j < a.many →
-        length ((network_of o at).channel a.broker (get_or a.neighbours j 0)) + length (tidings (tree o) (network_of o at) a.broker (get_or a.neighbours j 0)) ≤ o.messages
+    pub next_room : no_room_to_tell o (network_of o memory) b ≡ None → j < length (neighbours (tree o) b) →
+        length ((network_of o at).channel b (get_or (neighbours (tree o) b) j 0)) + length (tidings (tree o) (network_of o at) b (get_or (neighbours (tree o) b) j 0)) ≤ o.messages
     next_room r l =
-        let b = a.broker in
-        let n = get_or a.neighbours j 0 in
+        let n = get_or (neighbours (tree o) b) j 0 in
         let s = network_of o memory in
         let ks = take j (neighbours (tree o) b) in
-        let h = full_none o.messages (s.channel b) (tidings (tree o) s b) (neighbours (tree o) b) n r (around_has o a ready.around j l) in
+        let h = full_none o.messages (s.channel b) (tidings (tree o) s b) (neighbours (tree o) b) n r (getD_has (neighbours (tree o) b) j l) in
         let p = told_channel (tree o) b ks n s (fresh l) in
         let q = told_announced (tree o) b ks n s (fresh l) in
         subst (λ u. length (u.channel b n) + length (tidings (tree o) u b n) ≤ o.messages) (sym (reads o at _ e))
         (subst (λ ms. length ms + length (batch ((told_to (tree o) b ks s).announced b n) (announcement (tree o) s b n)) ≤ o.messages) (sym p)
         (subst (λ fs. length (s.channel b n) + length (batch fs (announcement (tree o) s b n)) ≤ o.messages) (sym q) h))
 
-    pub next_told : (later : List ℕ) → j < a.many → Encodes o later (tell_one (tree o) a.broker (get_or a.neighbours j 0) (network_of o at)) →
-        Encodes o later (told_to (tree o) a.broker (take (j + 1) (neighbours (tree o) a.broker)) (network_of o memory))
+    pub next_told : (later : List ℕ) → j < length (neighbours (tree o) b) → Encodes o later (tell_one (tree o) b (get_or (neighbours (tree o) b) j 0) (network_of o at)) →
+        Encodes o later (told_to (tree o) b (take (j + 1) (neighbours (tree o) b)) (network_of o memory))
     next_told later l f =
-        let b = a.broker in
-        let n = get_or a.neighbours j 0 in
+        let n = get_or (neighbours (tree o) b) j 0 in
         let ns = neighbours (tree o) b in
-        let m = around_many o a ready.around in
-        let p = around_at o a ready.around j l in
-        let t = take_more ns j 0 (omega arith) ∙ ap (λ k. take j ns ++ k ∷ []) (sym p) in
         subst (Encodes o later)
         (ap (tell_one (tree o) b n) (reads o at _ e)
         ∙ sym (told_more (tree o) b (take j ns) n (network_of o memory) (fresh l))
-        ∙ ap (λ ks. told_to (tree o) b ks (network_of o memory)) (sym t))
+        ∙ ap (λ ks. told_to (tree o) b ks (network_of o memory)) (sym (take_more ns j 0 l)))
         f

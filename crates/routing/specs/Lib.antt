@@ -1,3 +1,4 @@
 pub mod Around
 pub mod Reach
 pub mod Rooms
+pub mod Tidings

@@ -1,5 +1,5 @@
 -- When there is no room for what a broker would send or deliver.
-use Rattle.std.specs.Prelude.{ℕ, ◌+◌, Bool, cond, not, List, [], ◌∷◌, length, Some, None, Option, nat_le}
+use Rattle.std.specs.Prelude.{ℕ, ◌+◌, Bool, cond, not, List, [], ◌∷◌, length, Some, None, Ok, Err, Option, Result, nat_le}
 use Rattle.filter.specs.Filter.{Notice}
 use Rattle.model.specs.Tree.{Tree, neighbours}
 use Rattle.model.specs.Model.{Message, Network, batch, announcement, passed_on, delivered}
@@ -13,6 +13,11 @@ abbrev pub first : List (Option Refusal) → Option Refusal
 first [] = None
 first (None ∷ rules) = first rules
 first (Some r ∷ rules) = Some r
+
+-- this value, unless a refusal applies
+abbrev pub ok_unless : {A : Type 0} → Option Refusal → A → Result A Refusal
+ok_unless None a = Ok a
+ok_unless (Some r) a = Err r
 
 abbrev pub when : Bool → Refusal → Option Refusal
 when applies r = cond applies (Some r) None

@@ -1,71 +1,52 @@
 // A notice arrives at a broker: it is delivered to the subscribers whose filter matches, and goes on to those beside the broker who wish for it.
 ghost use Rattle.std.specs.Prelude.{◌≡◌, ℕ, ◌+◌, ◌<◌, ◌≤◌, true, List, [], ◌∷◌, ◌++◌, length, take, None};
 ghost use Rattle.model.specs.Tree.{edge, has, distinct};
-ghost use Rattle.model.specs.Model.{arrive};
+ghost use Rattle.model.specs.Model.{notice as passed, arrive};
 ghost use Rattle.model.specs.Turn.{send_one, sent_to};
 ghost use Rattle.layout.specs.Parts.{tree};
 ghost use Rattle.layout.specs.State.{network_of, Encodes, Formed};
 ghost use Rattle.layout.specs.Logs.{all_to};
 ghost use Rattle.layout.specs.Changed.{with_arrived, with_deliveries};
-ghost use Rattle.routing.specs.Rooms.{first, no_room_to_pass, no_room_to_deliver};
-ghost use Rattle.routing.specs.Around.{Surrounds};
+ghost use Rattle.routing.specs.Rooms.{first, ok_unless, full, no_room_to_pass, no_room_to_deliver};
 ghost use Rattle.routing.specs.Reach.{Reaches};
 
-use crate::around::Around;
 use crate::reach::Reach;
+use crate::surroundings::surround;
 use broker::forwarding::goes_on;
 use broker::subscribers;
 use channel::{Message, ring};
 use filter::Notice;
 use layout::links::link;
-use layout::memory::table_words;
+use layout::memory::MOST_DELIVERIES;
 use layout::parts::{Kind, Span, place};
 use layout::{Opening, Refusal, log};
 
-// How many deliveries are kept.
-const DELIVERIES: usize = 65536;
-
 // The neighbours that a notice from one of them, or from the broker itself, goes on to, and the subscribers that it is delivered to.
-pub fn find(memory: &[u64], opening: &Opening, around: &Around, from: u64, notice: &[u64]) -> Reach
-    requires formed { Formed opening.now memory.now }
-    requires around { Surrounds opening.now around.now }
-    ensures { Reaches opening.now (network_of opening.now memory.now) around.now.broker from notice.now result }
-{
-    let size = table_words(opening);
-    let many = around.many;
-    let mut to = [0; 16];
-    let on = goes_on(
-        memory,
-        &around.neighbours[0..many],
-        &around.places[0..many],
-        size,
-        from,
-        notice,
-        opening.ranges,
-        &mut to,
-    );
-    let Span { at, end } = place(opening, Kind::Subscribers, around.broker);
-    let mut whom = [0; 64];
-    let many = subscribers::deliver(&memory[at..end], opening.ranges, notice, &mut whom);
-    Reach { to, on, whom, many }
-}
-
-// The refusal if a channel that the notice goes on to is full: the first such in the order of telling.
-fn lacks_room(memory: &[u64], opening: &Opening, broker: usize, reach: &Reach) -> Option<Refusal>
+pub fn find(memory: &[u64], opening: &Opening, broker: usize, from: u64, notice: &[u64]) -> Reach
     requires formed { Formed opening.now memory.now }
     requires there { broker < opening.now.brokers }
-    requires listed { reach.now.on ≤ length reach.now.to }
-    requires beside { (n : ℕ) → has (take reach.now.on reach.now.to) n ≡ true → edge (tree opening.now) broker n ≡ true }
-    ensures { (from k : ℕ) (e : List ℕ) → Reaches opening.now (network_of opening.now memory.now) broker from e reach.now → result ≡ no_room_to_pass opening.now (network_of opening.now memory.now) broker from k e }
+    ensures { Reaches opening.now (network_of opening.now memory.now) broker from notice.now result }
 {
-    for j in 0..reach.on {
-        let n = reach.to[j];
+    let around = surround(memory, opening, broker);
+    let to = goes_on(around.as_slice(), from, notice, opening.ranges);
+    let Span { at, end } = place(opening, Kind::Subscribers, broker);
+    let whom = subscribers::deliver(&memory[at..end], opening.ranges, notice);
+    Reach { to, whom }
+}
+
+// The refusal if the channel to one of these beside the broker is full: the first such of the list.
+fn lacks_room(memory: &[u64], opening: &Opening, broker: usize, to: &[u64]) -> Result<(), Refusal>
+    requires formed { Formed opening.now memory.now }
+    requires beside { (n : ℕ) → has to.now n ≡ true → edge (tree opening.now) broker n ≡ true }
+    ensures { (k : ℕ) (e : List ℕ) → result ≡ ok_unless (full opening.now.messages ((network_of opening.now memory.now).channel broker) (λ n. passed k e ∷ []) to.now) tt }
+{
+    for &n in to {
         let Span { at, end } = place(opening, Kind::Channel, link(broker, n as usize));
         if ring::count(&memory[at..end]) >= opening.messages {
-            return Some(Refusal::ChannelFull(n));
+            return Err(Refusal::ChannelFull(n));
         }
     }
-    None
+    Ok(())
 }
 
 // The refusal if there is no room for what the notice brings: on the channels, or among the deliveries.
@@ -77,20 +58,18 @@ pub fn refused(
     number: u64,
     notice: &[u64],
     reach: &Reach,
-) -> Option<Refusal>
+) -> Result<(), Refusal>
     requires formed { Formed opening.now memory.now }
     requires there { broker < opening.now.brokers }
     requires reaches { Reaches opening.now (network_of opening.now memory.now) broker from notice.now reach.now }
-    ensures { result ≡ first (no_room_to_pass opening.now (network_of opening.now memory.now) broker from number notice.now ∷ (no_room_to_deliver (network_of opening.now memory.now) broker number notice.now ∷ [])) }
+    ensures { result ≡ ok_unless (first (no_room_to_pass opening.now (network_of opening.now memory.now) broker from number notice.now ∷ (no_room_to_deliver (network_of opening.now memory.now) broker number notice.now ∷ []))) tt }
 {
-    if let Some(refusal) = lacks_room(memory, opening, broker, reach) {
-        return Some(refusal);
-    }
+    lacks_room(memory, opening, broker, reach.to.as_slice())?;
     let Span { at, .. } = place(opening, Kind::Deliveries, 0);
-    if memory[at] as usize + reach.many > DELIVERIES {
-        return Some(Refusal::TooManyDeliveries(DELIVERIES as u64));
+    if memory[at] as usize + reach.whom.len() > MOST_DELIVERIES {
+        return Err(Refusal::TooManyDeliveries(MOST_DELIVERIES as u64));
     }
-    None
+    Ok(())
 }
 
 // Writes the notice behind the last message to one beside the broker.
@@ -102,15 +81,16 @@ fn send(memory: &mut [u64], opening: &Opening, from: usize, to: usize, number: u
 {
     let Span { at, end } = place(opening, Kind::Channel, link(from, to));
     let message = Message::Notice { number, notice };
-    let _ = ring::append(
+    ring::append(
         &mut memory[at..end],
         opening.ranges,
         opening.messages,
         message,
-    );
+    )
+    .unwrap();
 }
 
-// Sends the notice on to the first brokers of a list, in their order.
+// Sends the notice on to these brokers, in their order.
 fn send_all(
     memory: &mut [u64],
     opening: &Opening,
@@ -124,8 +104,8 @@ fn send_all(
     requires room { (n : ℕ) → has to.now n ≡ true → (edge (tree opening.now) from n ≡ true) × (length ((network_of opening.now memory.old).channel from n) < opening.now.messages) }
     ensures { Encodes opening.now memory.new (sent_to from number (take opening.now.ranges notice.numbers) to.now (network_of opening.now memory.old)) }
 {
-    for j in 0..to.len() {
-        send(memory, opening, from, to[j] as usize, number, notice);
+    for &n in to {
+        send(memory, opening, from, n as usize, number, notice);
     }
 }
 
@@ -137,7 +117,7 @@ fn write_down(memory: &mut [u64], opening: &Opening, broker: usize, number: u64,
     ensures { Encodes opening.now memory.new (with_arrived (with_deliveries (network_of opening.now memory.old) ((network_of opening.now memory.old).deliveries ++ all_to number whom.now)) broker (number ∷ (network_of opening.now memory.old).arrived broker)) }
 {
     let Span { at, end } = place(opening, Kind::Deliveries, 0);
-    log::deliver(&mut memory[at..end], number, whom, whom.len());
+    log::deliver(&mut memory[at..end], number, whom);
     let Span { at, end } = place(opening, Kind::Arrived, broker);
     log::note(&mut memory[at..end], number);
 }
@@ -159,8 +139,6 @@ pub fn arrive(
     requires new { length ((network_of opening.now memory.old).arrived broker) < 4096 }
     ensures { Encodes opening.now memory.new (arrive (tree opening.now) broker from number (take opening.now.ranges notice.numbers) (network_of opening.now memory.old)) }
 {
-    let on = reach.on;
-    send_all(memory, opening, broker, &reach.to[0..on], number, notice);
-    let many = reach.many;
-    write_down(memory, opening, broker, number, &reach.whom[0..many]);
+    send_all(memory, opening, broker, reach.to.as_slice(), number, notice);
+    write_down(memory, opening, broker, number, reach.whom.as_slice());
 }

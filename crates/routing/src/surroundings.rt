@@ -1,29 +1,31 @@
-// Finds the brokers beside one, and where the tables lie that were learned from each.
-ghost use Rattle.std.specs.Prelude.{◌≡◌, ◌<◌};
+// The brokers beside one, in the order of telling, each with the table that was learned from there.
+ghost use Rattle.std.specs.Prelude.{◌<◌};
+ghost use Rattle.layout.specs.State.{Formed};
 ghost use Rattle.routing.specs.Around.{Surrounds};
 
-use crate::around::Around;
+use arrayvec::ArrayVec;
+use broker::neighbour::Neighbour;
 use layout::Opening;
 use layout::links::link;
 use layout::parts::{Kind, Span, place};
 
-pub fn surround(opening: &Opening, broker: usize) -> Around
-    requires { broker < opening.now.brokers }
-    ensures found { Surrounds opening.now result }
-    ensures broker { result.broker ≡ broker }
+pub(crate) fn surround<'a>(
+    memory: &'a [u64],
+    opening: &Opening,
+    broker: usize,
+) -> ArrayVec<Neighbour<'a>, 16>
+    requires formed { Formed opening.now memory.now }
+    requires there { broker < opening.now.brokers }
+    ensures { Surrounds opening.now memory.now broker result.items }
 {
-    let mut neighbours = [0; 16];
-    let many = opening.beside(broker, &mut neighbours);
-    let mut places = [0; 16];
-    for j in 0..many {
-        let n = neighbours[j] as usize;
-        let Span { at, .. } = place(opening, Kind::Learned, link(n, broker));
-        places[j] = at as u64;
+    let mut around = ArrayVec::new();
+    let beside = opening.beside(broker);
+    for &neighbour in beside.as_slice() {
+        let Span { at, end } = place(opening, Kind::Learned, link(neighbour as usize, broker));
+        around.push(Neighbour {
+            broker: neighbour,
+            learned: &memory[at..end],
+        });
     }
-    Around {
-        broker,
-        many,
-        neighbours,
-        places,
-    }
+    around
 }

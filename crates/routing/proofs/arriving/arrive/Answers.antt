@@ -1,9 +1,7 @@
-use Rattle.std.proofs.Common.{length, take, sym, ap, ◌∙◌, arith}
-use Rattle.std.proofs.lemmas.List.{length-take-le}
-use Rattle.model.specs.Tree.{has, distinct}
+use Rattle.std.proofs.Common.{length, take, ap, arith}
 use Rattle.layout.specs.State.{network_of}
 use Rattle.routing.specs.Rooms.{no_room_to_pass, no_room_to_deliver}
-use Rattle.routing.proofs.Arrivals.{first_none, lent_front, goes_apart, goes_beside, goes_room, deliveries_room, arrived_now}
+use Rattle.routing.proofs.Arrivals.{first_none, goes_apart, goes_beside, goes_room, deliveries_room, arrived_now}
 use Rattle.layout.proofs.Encoded.{reads, formed}
 use Rattle.routing.proofs.arriving.arrive.Goals as goal
 
@@ -14,13 +12,12 @@ send_all-requires c =
     let b = c.args.broker in
     let e = take o.ranges c.args.notice.numbers in
     let reach = c.args.reach.now in
-    let f = lent_front reach.on reach.to in
     let (pass, _) = first_none _ _ c.requires.room in
     record {
       formed = c.requires.formed;
-      apart = ap distinct f ∙ goes_apart o s b c.args.from e reach c.requires.there c.requires.reaches;
+      apart = rw c.as_slice.ensures.value (goes_apart o s b c.args.from e reach c.requires.there c.requires.reaches);
       room = λ n t.
-          let u = ap (λ ns. has ns n) (sym f) ∙ t in
+          let u = rw c.as_slice.ensures.value at t in
           (goes_beside o s b c.args.from e reach c.requires.there c.requires.reaches n u, goes_room o s b c.args.from e reach c.requires.there c.requires.reaches c.args.number pass n u);
     }
 
@@ -30,7 +27,7 @@ write_down-requires c =
     let s = network_of o c.args.memory.now in
     let e = take o.ranges c.args.notice.numbers in
     let reach = c.args.reach.now in
-    let f = ap length (lent_front reach.many reach.whom) ∙ length-take-le reach.many reach.whom c.requires.reaches.few.1 in
+    let f = ap length c.as_slice-2.ensures.value in
     let r = reads o c.send_all.new.memory _ c.send_all.ensures in
     let x = ap (λ u. length u.deliveries) r in
     let y = ap (λ u. length (u.arrived c.args.broker)) r in
@@ -51,4 +48,4 @@ returns c =
     let e = take o.ranges c.args.notice.numbers in
     let reach = c.args.reach.now in
     arrived_now o s c.args.broker c.args.from e reach c.requires.there c.requires.reaches c.args.number _ _ c.send_all.new.memory c.write_down.new.memory
-    (lent_front reach.on reach.to) (lent_front reach.many reach.whom) c.send_all.ensures c.write_down.ensures
+    c.as_slice.ensures.value c.as_slice-2.ensures.value c.send_all.ensures c.write_down.ensures

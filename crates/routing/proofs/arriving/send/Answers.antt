@@ -1,6 +1,8 @@
+use Rattle.std.proofs.Common.{ap, ◌∙◌, is_ok}
+use Rattle.std.proofs.lemmas.Bool.{cond-true}
 use Rattle.routing.proofs.Arrivals.{sent_notice}
 use Rattle.layout.proofs.Carried.{carries_shape}
-use Rattle.routing.proofs.Sendings.{ends_small, link_channel, lent_channel}
+use Rattle.routing.proofs.Sendings.{ends_small, lets_one, link_channel, lent_channel}
 use Rattle.routing.proofs.arriving.send.Goals as goal
 
 pub link-requires : goal.link-requires
@@ -14,6 +16,12 @@ append-requires c =
     let o = c.args.opening.now in
     let q = lent_channel o c.args.memory.now c.requires.formed c.args.from c.args.to c.requires.beside c.link.result c.place-at.result.at c.place-at.result.end c.link.ensures c.place-at.ensures.start c.place-at.ensures.stop in
     (o.valid.0.1, carries_shape o.messages o.ranges _ _ q)
+
+pub unwrap-requires : goal.unwrap-requires
+unwrap-requires c =
+    let o = c.args.opening.now in
+    let q = lent_channel o c.args.memory.now c.requires.formed c.args.from c.args.to c.requires.beside c.link.result c.place-at.result.at c.place-at.result.end c.link.ensures c.place-at.ensures.start c.place-at.ensures.stop in
+    ap is_ok (c.append.ensures.answer ∙ cond-true _ _ _ (lets_one _ _ _ _ q c.requires.room))
 
 pub returns : goal.returns
 returns c =

@@ -4,5 +4,5 @@ use Rattle.layout.specs.State.{network_of, Encodes}
 use Rattle.routing.proofs.arriving.send_all.Given as goal
 
 -- the memory holds the network in which the broker has sent the notice on to the first j of the list
-abbrev pub invariant-loop-j : goal.invariant-loop-j
-invariant-loop-j l = Encodes l.opening l.memory (sent_to l.from l.number (take l.opening.ranges l.notice.numbers) (take l.j l.to) (network_of l.opening l.initial.memory))
+abbrev pub invariant-loop-n : goal.invariant-loop-n
+invariant-loop-n l = Encodes l.opening l.memory (sent_to l.from l.number (take l.opening.ranges l.notice.numbers) (take l.n-index l.to) (network_of l.opening l.initial.memory))

@@ -18,7 +18,7 @@ deliver-requires c =
     let d = lent_deliveries o c.args.memory.now (network_of o c.args.memory.now) c.requires.formed c.place-at.result.at c.place-at.result.end c.place-at.ensures.start c.place-at.ensures.stop in
     let n = delivers_count _ _ d in
     let r = c.requires.room.0 in
-    (delivers_length _ _ d, omega arith, omega arith)
+    (delivers_length _ _ d, omega arith)
 
 pub place-at-requires-2 : goal.place-at-requires-2
 unfolding many_of

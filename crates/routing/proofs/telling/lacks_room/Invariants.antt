@@ -6,7 +6,7 @@ use Rattle.routing.specs.Rooms.{full, tidings, no_room_to_tell}
 use Rattle.routing.proofs.telling.lacks_room.Given as goal
 
 -- the neighbours that are left give the answer
-abbrev pub invariant-loop-j : goal.invariant-loop-j
-invariant-loop-j l =
-    full l.opening.messages ((network_of l.opening l.memory).channel l.around.broker) (tidings (tree l.opening) (network_of l.opening l.memory) l.around.broker) (drop l.j (neighbours (tree l.opening) l.around.broker))
-    ≡ no_room_to_tell l.opening (network_of l.opening l.memory) l.around.broker
+abbrev pub invariant-loop-n : goal.invariant-loop-n
+invariant-loop-n l =
+    full l.opening.messages ((network_of l.opening l.memory).channel l.broker) (tidings (tree l.opening) (network_of l.opening l.memory) l.broker) (drop l.n-index (neighbours (tree l.opening) l.broker))
+    ≡ no_room_to_tell l.opening (network_of l.opening l.memory) l.broker

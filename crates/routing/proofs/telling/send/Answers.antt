@@ -1,5 +1,7 @@
+use Rattle.std.proofs.Common.{ap, ◌∙◌, is_ok}
+use Rattle.std.proofs.lemmas.Bool.{cond-true}
 use Rattle.layout.proofs.Carried.{carries_shape}
-use Rattle.routing.proofs.Sendings.{ends_small, link_channel, lent_channel, sent}
+use Rattle.routing.proofs.Sendings.{ends_small, lets_some, link_channel, lent_channel, sent}
 use Rattle.routing.proofs.telling.send.Goals as goal
 
 pub link-requires : goal.link-requires
@@ -12,9 +14,15 @@ pub append_all-requires : goal.append_all-requires
 append_all-requires c =
     let o = c.args.opening.now in
     let q = lent_channel o c.args.memory.now c.requires.formed c.args.from c.args.to c.requires.beside c.link.result c.place-at.result.at c.place-at.result.end c.link.ensures c.place-at.ensures.start c.place-at.ensures.stop in
-    record { shape = (o.valid.0.1, carries_shape o.messages o.ranges _ _ q); within = c.requires.within }
+    record { shape = (o.valid.0.1, carries_shape o.messages o.ranges _ _ q); wide = c.requires.wide }
+
+pub unwrap-requires : goal.unwrap-requires
+unwrap-requires c =
+    let o = c.args.opening.now in
+    let q = lent_channel o c.args.memory.now c.requires.formed c.args.from c.args.to c.requires.beside c.link.result c.place-at.result.at c.place-at.result.end c.link.ensures c.place-at.ensures.start c.place-at.ensures.stop in
+    ap is_ok (c.append_all.ensures.answer ∙ cond-true _ _ _ (lets_some _ _ _ _ q _ c.requires.room))
 
 pub returns : goal.returns
 returns c =
     sent c.args.opening.now c.args.memory.now c.requires.formed c.args.from c.args.to c.requires.beside c.link.result c.place-at.result.at c.place-at.result.end c.link.ensures c.place-at.ensures.start c.place-at.ensures.stop
-    c.args.change c.args.count c.args.filters.now c.append_all.new.channel c.requires.within c.requires.room c.append_all.ensures.holds
+    c.args.change c.args.filters c.append_all.new.channel c.requires.wide c.requires.room c.append_all.ensures.holds

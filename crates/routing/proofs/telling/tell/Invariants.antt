@@ -5,6 +5,6 @@ use Rattle.layout.specs.Parts.{tree}
 use Rattle.layout.specs.State.{network_of, Encodes}
 use Rattle.routing.proofs.telling.tell.Given as goal
 
--- the memory holds the network in which the broker has told its first j neighbours
-abbrev pub invariant-loop-j : goal.invariant-loop-j
-invariant-loop-j l = Encodes l.opening l.memory (told_to (tree l.opening) l.around.broker (take l.j (neighbours (tree l.opening) l.around.broker)) (network_of l.opening l.initial.memory))
+-- the memory holds the network in which the broker has told the first of its neighbours
+abbrev pub invariant-loop-n : goal.invariant-loop-n
+invariant-loop-n l = Encodes l.opening l.memory (told_to (tree l.opening) l.broker (take l.n-index (neighbours (tree l.opening) l.broker)) (network_of l.opening l.initial.memory))
