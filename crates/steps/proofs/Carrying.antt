@@ -1,6 +1,7 @@
 -- The rules of carrying, opened: between brokers beside each other only the oldest message decides, and what the model does with it.
-use Rattle.std.proofs.Common.{◌≡◌, ℕ, ◌≤◌, true, false, eqb, ltb, List, [], ◌∷◌, length, get_or, Some, None, refl, ap, ◌∙◌}
+use Rattle.std.proofs.Common.{◌≡◌, ℕ, ◌≤◌, true, false, eqb, ltb, List, [], ◌∷◌, length, Some, None, refl, ap, ◌∙◌}
 use Rattle.std.proofs.lemmas.Bool.{both_ways, lt-ltb, le-leb, ne_eqb}
+use Rattle.filter.specs.declared.value.Notice.{Notice as Value}
 use Rattle.channel.specs.Message.{words}
 use Rattle.channel.specs.declared.message.Message.{Message as Sent}
 use Rattle.channel.specs.declared.message.Message.TheVariants.{Add, Cut, Notice as Post}
@@ -20,11 +21,11 @@ use Rattle.routing.proofs.Room.{last_rule}
 use Rattle.layout.proofs.Written.{tree_hung, edge_brokers}
 
 -- an add or a cut is one of those that a broker reacts to by telling
-pub change_is : (m : ℕ) (x : Sent) → (get_or (words m x) 0 0 ≡ 3 → ⊥) → is_change (message_in m (words m x)) ≡ true
+pub change_is : (m : ℕ) (x : Sent) → ((n : ℕ) (v : Value) → x ≡ Post n v → ⊥) → is_change (message_in m (words m x)) ≡ true
 unfolding is_change
 change_is m (Add f) h = refl
 change_is m (Cut f) h = refl
-change_is m (Post n e) h = absurd (h refl)
+change_is m (Post n e) h = absurd (h n e refl)
 
 receiving_change : (o : Opening) (s : Network) (a b : ℕ) (p : Message) (ps : List Message) → is_change p ≡ true → receiving o s a b (p ∷ ps) ≡ no_room_to_tell o (taken s a b p ps) b
 unfolding receiving is_change

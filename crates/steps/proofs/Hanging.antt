@@ -1,5 +1,5 @@
 -- Who hangs on whom in an opening's tree, by the row of the brokers hung on.
-use Rattle.std.proofs.Common.{◌≡◌, ℕ, zero, suc, ◌<◌, ◌≤◌, Bool, true, false, ◌&&◌, ◌||◌, eqb, ltb, ◌⊎◌, get_or, sym, refl, ◌∙◌, inl, inr, arith}
+use Rattle.std.proofs.Common.{◌≡◌, ℕ, zero, suc, ◌<◌, Bool, true, false, ◌&&◌, ◌||◌, eqb, ltb, ◌⊎◌, get_or, sym, refl, ◌∙◌, inl, inr, arith}
 use Rattle.std.proofs.lemmas.Bool.Decides.{nat_tests}
 use Rattle.model.specs.Tree.{up, edge, has, neighbours, hangs_on}
 use Rattle.model.proofs.Tree.{edge_up, edge_sym, neighbours_edge}
@@ -12,7 +12,7 @@ pub hung_up : (o : Opening) (b : ℕ) → 0 < b → b < o.brokers → up (tree o
 hung_up o b p q = (links o.hung o.brokers o.valid.1.0 o.valid.4).hung_on b p q
 
 -- broker a hangs on b
-hangs_here : (o : Opening) (a b : ℕ) → a < o.brokers → hangs_on (tree o) a b ≡ (ltb 0 a && eqb (get_or o.hung a 0) b)
+pub hangs_here : (o : Opening) (a b : ℕ) → a < o.brokers → hangs_on (tree o) a b ≡ (ltb 0 a && eqb (get_or o.hung a 0) b)
 unfolding hangs_on
 hangs_here o zero b p = grind (arith, nat_tests)
 hangs_here o (suc a) b p =
@@ -27,19 +27,9 @@ module _ (o : Opening) (a b : ℕ) (p : a < o.brokers) (q : b < o.brokers) where
       let y = hangs_here o b a q in
       rw (edge_up (tree o) a b, x, y)
 
-  -- the first hangs on the second; it does not, and then it is for the second to hang on the first; and the second may hang on none
+  -- the first hangs on the second
   pub edge_first : 0 < a → get_or o.hung a 0 ≡ b → true ≡ edge (tree o) a b
   edge_first l e =
-      let h = hung_edge in
-      grind (arith, nat_tests)
-
-  pub edge_second : (0 < a → get_or o.hung a 0 ≡ b → ⊥) → 0 < b → eqb (get_or o.hung b 0) a ≡ edge (tree o) a b
-  edge_second no_first l =
-      let h = hung_edge in
-      grind (arith, nat_tests)
-
-  pub edge_neither : (0 < a → get_or o.hung a 0 ≡ b → ⊥) → b ≤ 0 → ltb 0 b ≡ edge (tree o) a b
-  edge_neither no_first l =
       let h = hung_edge in
       grind (arith, nat_tests)
 

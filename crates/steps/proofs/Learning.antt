@@ -1,7 +1,5 @@
 -- An add or a cut reaches a table: what there has to be room for, and that an add of what is there changes nothing.
-use Rattle.std.proofs.Common.{◌≡◌, ℕ, suc, ◌+◌, ◌-◌, ◌*◌, ◌<◌, ◌≤◌, Bool, true, false, cond, List, [], ◌∷◌, length, get_or, take, Some, None, sym, refl, ap, ◌∙◌, subst, mul-suc, arith}
-use Rattle.std.specs.List.{between}
-use Rattle.std.proofs.lemmas.List.{length-take-le}
+use Rattle.std.proofs.Common.{◌≡◌, ℕ, suc, ◌+◌, ◌*◌, ◌<◌, ◌≤◌, Bool, true, false, List, [], ◌∷◌, length, get_or, take, sym, refl, ap, ◌∙◌, subst, mul-suc, arith}
 use Rattle.filter.specs.Filter.{Filter, same}
 use Rattle.filter.specs.declared.value.Filter.{Filter as Ranges}
 use Rattle.filter.proofs.Laws.{same_tells}
@@ -17,7 +15,6 @@ use Rattle.channel.specs.declared.message.Message.TheVariants.{Add, Cut, Notice 
 use Rattle.filter.specs.declared.value.Notice.{Notice}
 use Rattle.model.specs.Model.{after}
 use Rattle.layout.specs.Mail.{message_in}
-use Rattle.steps.proofs.Options.{found, missed}
 
 -- a filter that is there is put there once
 pub put_there : (f : Filter) (fs : List Filter) → sorted fs ≡ true → among f fs ≡ true → put f fs ≡ fs
@@ -38,36 +35,22 @@ length_put_new f (g ∷ fs) h =
     grind arith
 
 module _ (m : ℕ) (x : Message) (f : Ranges) (t : List ℕ) (is : x ≡ Add f) (long : 2 * m ≤ length f.bounds) where
-  -- the filter as it is lent to the search
-  front : between 0 (2 * m) f.bounds ≡ take (2 * m) f.bounds
-  front =
-      let z : 2 * m - 0 ≡ 2 * m = omega arith in
-      rw z
-
-  searched : among (between 0 (2 * m) f.bounds) (held (length (between 0 (2 * m) f.bounds)) t) ≡ among (take (2 * m) f.bounds) (held (2 * m) t)
-  searched =
-      let e = front in
-      let l = length-take-le (2 * m) f.bounds long in
-      rw (e, l)
-
-  pub learn_found : (k i : ℕ) → Some i ≡ cond (among (between 0 (2 * m) f.bounds) (held (length (between 0 (2 * m) f.bounds)) t)) (Some k) None →
+  pub learn_found : among (take (2 * m) f.bounds) (held (2 * m) t) ≡ true →
       sorted (held (2 * m) t) ≡ true → 0 < length t → t ≡ changed (2 * m) (after (message_in m (words m x))) t
   unfolding after
-  learn_found k i e s l =
-      let h = sym searched ∙ found _ k i e in
-      let p = put_there (take (2 * m) f.bounds) (held (2 * m) t) s h in
+  learn_found e s l =
+      let p = put_there (take (2 * m) f.bounds) (held (2 * m) t) s e in
       sym (ap (λ y. changed (2 * m) (after (message_in m (words m y))) t) is ∙ ap (λ fs. stored (2 * m) fs t) p ∙ stored_same (2 * m) t l)
 
   -- there is room for one filter more, if this one is new
-  pub learn_room : (k : ℕ) → None ≡ cond (among (between 0 (2 * m) f.bounds) (held (length (between 0 (2 * m) f.bounds)) t)) (Some k) None →
+  pub learn_room : among (take (2 * m) f.bounds) (held (2 * m) t) ≡ false →
       1 + 2 * m * length (after (message_in m (words m x)) (held (2 * m) t)) ≤ length t → 1 + (2 * m * get_or t 0 0 + 2 * m) ≤ length t
   unfolding after
-  learn_room k e r =
-      let h = sym searched ∙ missed _ k e in
+  learn_room e r =
       let fs = held (2 * m) t in
       let g = take (2 * m) f.bounds in
       let q : 1 + 2 * m * length (put g fs) ≤ length t = subst (λ y. 1 + 2 * m * length (after (message_in m (words m y)) fs) ≤ length t) is r in
-      let l = ap (λ n. 2 * m * n) (length_put_new g fs h ∙ ap suc (length_held (2 * m) t)) in
+      let l = ap (λ n. 2 * m * n) (length_put_new g fs e ∙ ap suc (length_held (2 * m) t)) in
       let d = mul-suc (2 * m) (get_or t 0 0) in
       omega arith
 

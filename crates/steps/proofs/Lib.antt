@@ -1,4 +1,3 @@
-pub mod Answered
 pub mod Carrying
 pub mod Hanging
 pub mod Learning
@@ -7,6 +6,8 @@ pub mod Noticed
 pub mod Oldest
 pub mod Options
 pub mod Performing
+pub mod Posting
+pub mod Ranges
 pub mod Restored
 pub mod Ruled
 pub mod Subscribing

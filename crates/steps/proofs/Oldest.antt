@@ -68,6 +68,6 @@ module _ (room m : ℕ) (ms : List Message) (ws : List ℕ) (c : Carries room m 
       (ps, e ∙ ap (λ y. y ∷ ps) (notice_read m p few s n v (sym is ∙ i)))
 
 -- an add and a cut are no notices
-pub no_notice : (m : ℕ) (x : Sent) → ((f : Ranges) × (x ≡ Add f)) ⊎ ((f : Ranges) × (x ≡ Cut f)) → get_or (words m x) 0 0 ≡ 3 → ⊥
-no_notice m x (inl (f, e)) h = omega (arith, ap (λ y. get_or (words m y) 0 0) e)
-no_notice m x (inr (f, e)) h = omega (arith, ap (λ y. get_or (words m y) 0 0) e)
+pub no_notice : (x : Sent) → ((f : Ranges) × (x ≡ Add f)) ⊎ ((f : Ranges) × (x ≡ Cut f)) → (n : ℕ) (v : Notice) → x ≡ Post n v → ⊥
+no_notice x (inl (f, e)) n v h = omega (arith, ap (λ y. get_or (words 0 y) 0 0) (sym e ∙ h))
+no_notice x (inr (f, e)) n v h = omega (arith, ap (λ y. get_or (words 0 y) 0 0) (sym e ∙ h))

@@ -1,11 +1,13 @@
 -- How a command's contract is closed: what to show of one that is refused, and of one that is done; and that a sound memory is a proposition.
-use Rattle.std.proofs.Common.{◌≡◌, ℕ, ◌+◌, ◌-◌, ◌<◌, List, length, Some, None, Ok, Err, sym, ap, ◌∙◌, subst, arith}
+use Rattle.std.proofs.Common.{◌≡◌, ℕ, ◌+◌, ◌-◌, ◌<◌, List, length, IsErrAnd, Some, None, Ok, Err, Option, Result, refl, sym, ap, ◌∙◌, subst, arith}
+use Rattle.std.proofs.lemmas.Result.{err_from_is_err_and}
 use Rattle.model.specs.Model.{Network, step}
 use Rattle.model.specs.Invariant.{Few, Invariant}
 use Rattle.model.proofs.Invariants.{step_invariant, invariant_prop}
 use Rattle.layout.specs.Parts.{tree}
 use Rattle.layout.specs.State.{network_of, Encodes}
-use Rattle.steps.specs.Rules.{command_of, refusal_of, outcome, after, answer, made as made_by, answer_to}
+use Rattle.routing.specs.Rooms.{ok_unless}
+use Rattle.steps.specs.Rules.{command_of, refusal_of, outcome, after, made as made_by, answer_to}
 use Rattle.steps.specs.Sound.{Sound, Performed}
 use Rattle.layout.specs.declared.opening.Opening.{Opening}
 use Rattle.layout.specs.declared.command.Command.{Command}
@@ -42,7 +44,7 @@ pub refused_performed : (o : Opening) (memory : List ℕ) (d : Command) (e : Ref
 unfolding after answer_to
 refused_performed o memory d e h q memory₁ m =
     record {
-      answer = sym (ap (λ r. answer r (made_by o (network_of o memory) d)) q);
+      answer = sym (ap (λ r. ok_unless r (made_by o (network_of o memory) d)) q);
       network = ap (network_of o) m ∙ sym (ap (λ r. outcome r (step (tree o) (network_of o memory) (command_of o d)) (network_of o memory)) q);
       sound = subst (Sound o) (sym m) h;
       refused = λ f p. m;
@@ -59,8 +61,24 @@ done_performed o memory d made h q memory₁ e n =
     let many : made ≡ length (outcome (refusal_of o (network_of o memory) d) u (network_of o memory)).deliveries - length (network_of o memory).deliveries =
     (let l = ap (λ s. length s.deliveries) done in omega arith) in
     record {
-      answer = ap Ok many ∙ sym (ap (λ r. answer r (made_by o (network_of o memory) d)) q);
+      answer = ap Ok many ∙ sym (ap (λ r. ok_unless r (made_by o (network_of o memory) d)) q);
       network = reads o memory₁ u e ∙ sym done;
       sound = sound_encoded o memory₁ u e (step_invariant (tree o) (tree_hung o) o.subscribers (network_of o memory) (command_of o d) h.invariant (encoded_few o memory₁ u e));
       refused = λ f p. let z : ◌≡◌ {A = ℕ} 0 1 = cc in absurd (omega arith);
     }
+
+-- what an answer says of the refusal
+pub refused_says : {A : Type 0} (q : Option Refusal) (a : A) (e : Refusal) → Err e ≡ ok_unless q a → q ≡ Some e
+refused_says None a e h = let z : ◌≡◌ {A = ℕ} 0 1 = cc in absurd (omega arith)
+refused_says (Some r) a e h = cc
+
+pub allowed_says : {A : Type 0} (q : Option Refusal) (a x : A) → Ok x ≡ ok_unless q a → q ≡ None
+allowed_says None a x h = refl
+allowed_says (Some r) a x h = let z : ◌≡◌ {A = ℕ} 0 1 = cc in absurd (omega arith)
+
+-- a refusal that is handed on is the same
+pub refused_on : (o : Opening) (memory : List ℕ) (d : Command) (e : Refusal) → Sound o memory → refusal_of o (network_of o memory) d ≡ Some e →
+    (memory₁ : List ℕ) → memory₁ ≡ memory → (r : Result ℕ Refusal) → IsErrAnd r (λ y. y ≡ e) → Performed o memory d r memory₁
+refused_on o memory d e h q memory₁ m r p =
+    let (y, is, same) = err_from_is_err_and r p in
+    subst (λ x. Performed o memory d x memory₁) (sym (is ∙ ap Err same)) (refused_performed o memory d e h q memory₁ m)

@@ -1,15 +1,10 @@
 -- A part that was changed, put back from the words that were saved.
-use Rattle.std.proofs.Common.{◌≡◌, ℕ, ◌+◌, ◌-◌, ◌*◌, ◌<◌, ◌≤◌, List, length, take, IsErrAnd, Some, None, Ok, Err, Option, Result, sym, ap, ◌∙◌, mul-le-mul, arith}
+use Rattle.std.proofs.Common.{◌≡◌, ℕ, ◌+◌, ◌-◌, ◌*◌, ◌<◌, ◌≤◌, List, length, ap, ◌∙◌, mul-le-mul, arith}
 use borrow.Rule.Slice.PartMut.{put_mid}
 use Rattle.std.specs.List.{between}
-use Rattle.std.proofs.lemmas.List.Edits.{length-between}
-use Rattle.std.proofs.lemmas.Result.{err_from_is_err_and}
 use Rattle.layout.specs.Plan.{words_of, many_of, size_of, start_of, part, with_part}
 use Rattle.layout.specs.Parts.{plan_of, filters_room}
-use Rattle.steps.specs.Rules.{answer}
 use Rattle.layout.specs.declared.opening.Opening.{Opening}
-use Rattle.layout.specs.declared.refusal.Refusal.{Refusal}
-use Rattle.layout.proofs.Frames.{part_within}
 use Rattle.layout.proofs.Written.{lent, lent_part, restored}
 
 -- the largest table has 15,601 words
@@ -22,31 +17,14 @@ table_small o =
     let q : 2 * o.ranges * ((o.brokers - 1) * (o.subscribers + 1)) ≤ 16 * 975 = mul-le-mul {n₂ = 16} {m₂ = 975} (omega arith) p in
     omega arith
 
--- the i-th part of kind k, lent from `at` to `stop`, was saved and then written: with the saved words put back the memory is as it was
+-- the i-th part of kind k, lent from `at` to `stop`, was written: with the words that were there put back the memory is as it was
 pub put_back :
     (o : Opening) (memory : List ℕ) (k i at stop : ℕ) → words_of (plan_of o) ≤ length memory → i < many_of (plan_of o) k → at ≡ start_of (plan_of o) k i →
-    stop ≡ start_of (plan_of o) k i + size_of (plan_of o) k → (new saved : List ℕ) → length new ≡ size_of (plan_of o) k →
-    take (length (between at stop memory)) saved ≡ between at stop memory → put_mid at (stop - at) (put_mid at (stop - at) memory new) (take (stop - at) saved) ≡ memory
-put_back o memory k i at stop w h q r new saved l s =
+    stop ≡ start_of (plan_of o) k i + size_of (plan_of o) k → (new : List ℕ) → length new ≡ size_of (plan_of o) k →
+    put_mid at (stop - at) (put_mid at (stop - at) memory new) (between at stop memory) ≡ memory
+put_back o memory k i at stop w h q r new l =
     let z = plan_of o in
-    let within = part_within z k i h in
-    let n = length-between memory at stop (omega arith) in
-    ap (λ xs. put_mid at (stop - at) (put_mid at (stop - at) memory new) xs) (ap (λ j. take j saved) (sym n) ∙ s ∙ lent_part z k i at stop memory q r)
+    ap (λ xs. put_mid at (stop - at) (put_mid at (stop - at) memory new) xs) (lent_part z k i at stop memory q r)
     ∙ ap (λ xs. put_mid at (stop - at) xs (part z memory k i)) (lent z k i at stop memory new q r)
     ∙ lent z k i at stop (with_part z memory k i new) (part z memory k i) q r
     ∙ restored z memory new k i w h l
-
--- what an answer says of the refusal
-pub answer_refused : (q : Option Refusal) (n : ℕ) (e : Refusal) → Err e ≡ answer q n → q ≡ Some e
-answer_refused None n e h = let z : ◌≡◌ {A = ℕ} 0 1 = cc in absurd (omega arith)
-answer_refused (Some r) n e h = cc
-
-pub answer_done : (q : Option Refusal) (n k : ℕ) → Ok k ≡ answer q n → (q ≡ None) × (k ≡ n)
-answer_done None n k h = (cc, cc)
-answer_done (Some r) n k h = let z : ◌≡◌ {A = ℕ} 0 1 = cc in absurd (omega arith)
-
--- a refusal handed on is the same
-pub err_is : (r : Result ℕ Refusal) (e : Refusal) → IsErrAnd r (λ y. y ≡ e) → r ≡ Err e
-err_is r e h =
-    let (y, p, q) = err_from_is_err_and r h in
-    p ∙ ap Err q

@@ -1,5 +1,5 @@
 -- A subscriber comes or goes: the rules for it, and what the memory holds when the broker's part is written and when the broker has told.
-use Rattle.std.proofs.Common.{◌≡◌, ℕ, suc, ◌+◌, ◌-◌, ◌*◌, ◌<◌, ◌≤◌, true, false, not, ◌&&◌, ltb, leb, List, [], ◌∷◌, length, take, Some, None, Err, Option, Result, sym, refl, ap, ◌∙◌, subst, arith}
+use Rattle.std.proofs.Common.{◌≡◌, ℕ, suc, ◌+◌, ◌-◌, ◌*◌, ◌<◌, ◌≤◌, true, false, not, ◌&&◌, ltb, leb, List, [], ◌∷◌, length, take, IsErrAnd, Some, None, Ok, Option, Result, sym, refl, ap, ◌∙◌, subst, arith}
 use borrow.Rule.Slice.PartMut.{put_mid}
 use Rattle.std.specs.List.{between}
 use Rattle.std.proofs.lemmas.Bool.{and_from, cond-true, le-leb}
@@ -10,15 +10,14 @@ use Rattle.broker.proofs.Part.{shape_held}
 use Rattle.model.specs.Model.{Network, known, dropped, known_up_to, with_subscribers, tell, allowed, effect, step, join, leave}
 use Rattle.model.specs.Promise.{brokers_behind}
 use Rattle.model.proofs.Fit.{fits_now}
-use Rattle.layout.specs.Plan.{size_of, start_of, many_of, words_of}
+use Rattle.layout.specs.Plan.{size_of, start_of, many_of}
 use Rattle.layout.specs.Parts.{tree, plan_of}
 use Rattle.layout.specs.State.{network_of, Encodes}
 use Rattle.routing.specs.Rooms.{no_room_to_tell}
-use Rattle.steps.specs.Rules.{command_of, too_large, joined, refusal_of, answer}
-use Rattle.routing.specs.Around.{Surrounds, Ready}
+use Rattle.steps.specs.Rules.{command_of, too_large, joined, refusal_of}
+use Rattle.routing.specs.Around.{Ready}
 use Rattle.steps.specs.Sound.{Sound, Performed}
 use Rattle.layout.specs.declared.opening.Opening.{Opening}
-use Rattle.routing.specs.declared.around.Around.{Around}
 use Rattle.layout.specs.declared.command.Command.{Command}
 use Rattle.layout.specs.declared.command.Command.TheVariants.{Join, Leave}
 use Rattle.layout.specs.declared.refusal.Refusal.{Refusal}
@@ -26,7 +25,7 @@ use Rattle.layout.specs.declared.refusal.Refusal.TheVariants.{NoSuchBroker, Numb
 use Rattle.routing.proofs.Room.{last_rule}
 use Rattle.layout.proofs.Encoded.{reads, formed}
 use Rattle.steps.proofs.Lent.{lent_subscribers}
-use Rattle.steps.proofs.Performing.{refused_performed, done_performed}
+use Rattle.steps.proofs.Performing.{refused_on, done_performed}
 use Rattle.steps.proofs.Restored.{put_back}
 use Rattle.layout.proofs.Sized.{subscribers_size}
 use Rattle.layout.proofs.Spans.{subscribers_few}
@@ -114,55 +113,39 @@ module _ (o : Opening) (memory : List ℕ) (h : Sound o memory) (b at stop : ℕ
     pub others_stand : Encodes o (put_mid at (stop - at) memory new) (with_subscribers (network_of o memory) b rs)
     others_stand = subst (λ m. Encodes o m (with_subscribers (network_of o memory) b rs)) (sym (lent (plan_of o) 0 b at stop memory new starts stops)) (put_subscribers o memory (network_of o memory) h.formed b there rs new holds)
 
-    pub ready_to_tell : (a : Around) → Surrounds o a → Ready o (put_mid at (stop - at) memory new) a
-    ready_to_tell a s =
+    now_is : network_of o (put_mid at (stop - at) memory new) ≡ with_subscribers (network_of o memory) b rs
+    now_is = reads o (put_mid at (stop - at) memory new) (with_subscribers (network_of o memory) b rs) others_stand
+
+    pub ready_to_tell : Ready o (put_mid at (stop - at) memory new) b
+    ready_to_tell =
         record {
+          there = there;
           formed = formed o (put_mid at (stop - at) memory new) (with_subscribers (network_of o memory) b rs) others_stand;
-          around = s;
           bounded = λ n e.
-              subst (λ u. length (u.learned a.broker n) ≤ suc o.subscribers * brokers_behind (tree o) a.broker n)
-              (sym (reads o (put_mid at (stop - at) memory new) (with_subscribers (network_of o memory) b rs) others_stand))
-              (fits_now (tree o) (tree_hung o) o.subscribers (network_of o memory) h.invariant.fits a.broker n e);
+              subst (λ u. length (u.learned b n) ≤ suc o.subscribers * brokers_behind (tree o) b n) (sym now_is)
+              (fits_now (tree o) (tree_hung o) o.subscribers (network_of o memory) h.invariant.fits b n e);
         }
 
-    pub part_settles : (saved : List ℕ) → stop ≤ words_of (plan_of o) → length saved ≡ 15601 → (at ≤ stop) × (stop ≤ length (put_mid at (stop - at) memory new)) × (stop - at ≤ length saved)
-    unfolding size_of
-    part_settles saved w l =
-        let e = others_stand.whole in
-        let f = subscribers_few o in
-        (omega arith, omega arith, omega arith)
+    module _ (d : Command) (rule : refusal_of o (network_of o memory) d ≡ no_room_to_tell o (with_subscribers (network_of o memory) b rs) b) where
+      -- the rule for telling is asked of the memory as it is written
+      asked : (v : Option Refusal) → no_room_to_tell o (network_of o (put_mid at (stop - at) memory new)) b ≡ v → refusal_of o (network_of o memory) d ≡ v
+      asked v q = rule ∙ sym (ap (λ s. no_room_to_tell o s b) now_is) ∙ q
 
-    -- the broker has told, or there was no room to tell and the part is put back
-    pub settled_performed : (d : Command) → refusal_of o (network_of o memory) d ≡ no_room_to_tell o (with_subscribers (network_of o memory) b rs) b →
-        step (tree o) (network_of o memory) (command_of o d) ≡ tell (tree o) b (with_subscribers (network_of o memory) b rs) →
-        (saved : List ℕ) → take (length (between at stop memory)) saved ≡ between at stop memory →
-        (c : ℕ) → c ≡ b → (r : Result ℕ Refusal) (memory₁ : List ℕ) →
-        r ≡ answer (no_room_to_tell o (network_of o (put_mid at (stop - at) memory new)) c) 0 →
-        (no_room_to_tell o (network_of o (put_mid at (stop - at) memory new)) c ≡ None → Encodes o memory₁ (tell (tree o) c (network_of o (put_mid at (stop - at) memory new)))) →
-        ((e : Refusal) → r ≡ Err e → memory₁ ≡ put_mid at (stop - at) (put_mid at (stop - at) memory new) (take (stop - at) saved)) →
-        Performed o memory d r memory₁
-    unfolding many_of size_of tell
-    settled_performed d rule does saved kept c here r memory₁ says told back =
-        go (no_room_to_tell o u b) refl
-      where
-        u : Network
-        u = with_subscribers (network_of o memory) b rs
+      -- the broker has told
+      pub told_performed : step (tree o) (network_of o memory) (command_of o d) ≡ tell (tree o) b (with_subscribers (network_of o memory) b rs) →
+          no_room_to_tell o (network_of o (put_mid at (stop - at) memory new)) b ≡ None →
+          (memory₁ : List ℕ) → Encodes o memory₁ (tell (tree o) b (network_of o (put_mid at (stop - at) memory new))) → Performed o memory d (Ok 0) memory₁
+      unfolding tell
+      told_performed does q memory₁ tells =
+          done_performed o memory d 0 h (asked None q) memory₁ (subst (Encodes o memory₁) (ap (tell (tree o) b) now_is ∙ sym does) tells)
+          (let l = ap (λ s. length s.deliveries) does in omega arith)
 
-        now_is : network_of o (put_mid at (stop - at) memory new) ≡ u
-        now_is = reads o (put_mid at (stop - at) memory new) u others_stand
-
-        asks : no_room_to_tell o (network_of o (put_mid at (stop - at) memory new)) c ≡ no_room_to_tell o u b
-        asks = ap (λ s. no_room_to_tell o s c) now_is ∙ ap (no_room_to_tell o u) here
-
-        go : (v : Option Refusal) → no_room_to_tell o u b ≡ v → Performed o memory d r memory₁
-        go None q =
-            let z : r ≡ answer None 0 = says ∙ ap (λ x. answer x 0) (asks ∙ q) in
-            subst (λ x. Performed o memory d x memory₁) (sym z)
-            (done_performed o memory d 0 h (rule ∙ q) memory₁
-            (subst (Encodes o memory₁) (ap (λ s. tell (tree o) c s) now_is ∙ ap (λ x. tell (tree o) x u) here ∙ sym does) (told (asks ∙ q)))
-            (let l : length (network_of o memory).deliveries ≡ length (step (tree o) (network_of o memory) (command_of o d)).deliveries = sym (ap (λ s. length s.deliveries) does) in omega arith))
-        go (Some e) q =
-            let z : r ≡ Err e = says ∙ ap (λ x. answer x 0) (asks ∙ q) in
-            subst (λ x. Performed o memory d x memory₁) (sym z)
-            (refused_performed o memory d e h (rule ∙ q) memory₁
-            (back e z ∙ put_back o memory 0 b at stop h.formed.whole there starts stops new saved ((shape_held o.subscribers o.ranges rs new holds).0 ∙ sym (subscribers_size o)) kept))
+      -- there was no room to tell, and the part is put back
+      pub back_performed : (e : Refusal) → no_room_to_tell o (network_of o (put_mid at (stop - at) memory new)) b ≡ Some e →
+          (saved : List ℕ) → saved ≡ between at stop memory →
+          (memory₁ : List ℕ) → memory₁ ≡ put_mid at (stop - at) (put_mid at (stop - at) memory new) saved → (r : Result ℕ Refusal) → IsErrAnd r (λ y. y ≡ e) → Performed o memory d r memory₁
+      unfolding many_of
+      back_performed e q saved kept memory₁ back r handed =
+          let long : length new ≡ size_of (plan_of o) 0 = (shape_held o.subscribers o.ranges rs new holds).0 ∙ sym (subscribers_size o) in
+          refused_on o memory d e h (asked (Some e) q) memory₁
+          (back ∙ ap (put_mid at (stop - at) (put_mid at (stop - at) memory new)) kept ∙ put_back o memory 0 b at stop h.formed.whole there starts stops new long) r handed

@@ -1,5 +1,5 @@
 -- An add or a cut reaches the table of the broker where it arrives: there is room for that, and what the memory holds after each step.
-use Rattle.std.proofs.Common.{◌≡◌, ℕ, suc, ◌+◌, ◌-◌, ◌*◌, ◌≤◌, Bool, true, false, cond, ◌&&◌, eqb, List, ◌∷◌, ◌++◌, length, get_or, None, Ok, sym, refl, ap, ◌∙◌, subst, mul_comm, mul-le-mul_left, add-one, arith}
+use Rattle.std.proofs.Common.{◌≡◌, ℕ, suc, ◌+◌, ◌-◌, ◌*◌, ◌<◌, ◌≤◌, Bool, true, false, cond, ◌&&◌, eqb, List, ◌∷◌, ◌++◌, length, get_or, None, Ok, sym, refl, ap, ◌∙◌, subst, mul_comm, mul-le-mul_left, add-one, arith}
 use mathlib.Core.Path.{fun_ext}
 use borrow.Rule.Slice.PartMut.{put_mid}
 use Rattle.std.specs.List.{between, AllByRecursion}
@@ -27,17 +27,16 @@ use Rattle.layout.specs.State.{network_of, Encodes}
 use Rattle.layout.specs.Changed.{with_table, with_channel}
 use Rattle.routing.specs.Rooms.{full, tidings, no_room_to_tell}
 use Rattle.steps.specs.Rules.{refusal_of}
-use Rattle.routing.specs.Around.{Surrounds, Bounded, Ready}
+use Rattle.routing.specs.Around.{Bounded, Ready}
 use Rattle.steps.specs.Sound.{Sound, Performed}
 use Rattle.layout.specs.declared.opening.Opening.{Opening}
-use Rattle.routing.specs.declared.around.Around.{Around}
 use Rattle.layout.specs.declared.command.Command.TheVariants.{Carry}
 use Rattle.steps.proofs.Carrying.{ends_apart, carry_refusal_change, carry_step_change}
 use Rattle.routing.proofs.Compared.{kept_whole}
 use Rattle.layout.proofs.Encoded.{reads, formed}
 use Rattle.steps.proofs.Lent.{lent_learned}
 use Rattle.steps.proofs.Performing.{done_performed}
-use Rattle.layout.proofs.Sized.{learned_size}
+use Rattle.layout.proofs.Sized.{tables_size}
 use Rattle.layout.proofs.Written.{lent, tree_length, tree_hung, put_learned}
 
 pub wide_after : (m : ℕ) (p : Message) (fs : List Filter) → Sized m p → Wide (2 * m) fs → Wide (2 * m) (after p fs)
@@ -125,7 +124,7 @@ module _ (o : Opening) (memory : List ℕ) (sound : Sound o memory) (a b : ℕ) 
           (is ∙ ap (λ fs. stored (2 * o.ranges) (after p fs) (between at stop memory)) held_there)
 
       pub new_length : length new ≡ size_of (plan_of o) 3
-      new_length = length_kept (filters_room o) o.ranges then new table_then ∙ sym (learned_size o)
+      new_length = length_kept (filters_room o) o.ranges then new table_then ∙ sym (tables_size o).1
 
       pub table_changed : Encodes o (put_mid at (stop - at) memory new) (with_table (network_of o memory) b a then)
       table_changed =
@@ -143,15 +142,10 @@ module _ (o : Opening) (memory : List ℕ) (sound : Sound o memory) (a b : ℕ) 
             rw k after_short
         go false g = fits_now (tree o) (tree_hung o) o.subscribers (network_of o memory) sound.invariant.fits b n d
 
-    pub table_ready : (around : Around) → Surrounds o around → around.broker ≡ b → Ready o memory₁ around
-    table_ready around found is =
-        record {
-          formed = formed o memory₁ _ holds;
-          around = found;
-          bounded = subst (Bounded o (network_of o memory₁)) (sym is) (subst (λ u. Bounded o u b) (sym (reads o memory₁ _ holds)) bounded);
-        }
+    pub table_ready : b < o.brokers → Ready o memory₁ b
+    table_ready there = record { there = there; formed = formed o memory₁ _ holds; bounded = subst (λ u. Bounded o u b) (sym (reads o memory₁ _ holds)) bounded }
 
-    module _ (change : is_change p ≡ true) (c : ℕ) (is : c ≡ b) where
+    module _ (change : is_change p ≡ true) where
       -- the channels from b are as they were, so there is room for what b tells now just where there is room when the message is gone
       same_room : no_room_to_tell o (with_table (network_of o memory) b a then) b ≡ no_room_to_tell o (taken (network_of o memory) a b p ps) b
       same_room =
@@ -160,9 +154,9 @@ module _ (o : Opening) (memory : List ℕ) (sound : Sound o memory) (a b : ℕ) 
           ap (λ channel. full o.messages channel (tidings (tree o) (with_table s b a then) b) (neighbours (tree o) b))
           (fun_ext (λ n. sym (cond-false (eqb b a && eqb n b) ps (s.channel b n) (and_left (eqb b a) (eqb n b) d))))
 
-      pub change_refusal : no_room_to_tell o (network_of o memory₁) c ≡ refusal_of o (network_of o memory) (Carry a b)
+      pub change_refusal : no_room_to_tell o (network_of o memory₁) b ≡ refusal_of o (network_of o memory) (Carry a b)
       change_refusal =
-          (λ j. no_room_to_tell o (reads o memory₁ _ holds j) (is j)) ∙ same_room ∙ sym (carry_refusal_change o (network_of o memory) a b e p ps oldest change)
+          ap (λ s. no_room_to_tell o s b) (reads o memory₁ _ holds) ∙ same_room ∙ sym (carry_refusal_change o (network_of o memory) a b e p ps oldest change)
 
       -- b has told: the memory then holds this network, in which the message is still under way
       told : Network
@@ -189,10 +183,10 @@ module _ (o : Opening) (memory : List ℕ) (sound : Sound o memory) (a b : ℕ) 
             deliveries = s.deliveries;
           }
 
-      module _ (memory₂ : List ℕ) (tells : Encodes o memory₂ (tell (tree o) c (network_of o memory₁))) where
+      module _ (memory₂ : List ℕ) (tells : Encodes o memory₂ (tell (tree o) b (network_of o memory₁))) where
         now_told : network_of o memory₂ ≡ told
         unfolding told
-        now_told = reads o memory₂ _ tells ∙ (λ j. tell (tree o) (is j) (reads o memory₁ _ holds j))
+        now_told = reads o memory₂ _ tells ∙ ap (tell (tree o) b) (reads o memory₁ _ holds)
 
         pub told_formed : Encodes o memory₂ (network_of o memory₂)
         told_formed = formed o memory₂ _ tells

@@ -1,11 +1,11 @@
 -- The rules by which a command is refused, in their order, and what a command is to the model.
-use Rattle.std.specs.Prelude.{ℕ, suc, ◌-◌, ◌*◌, ◌^◌, cond, not, List, [], ◌∷◌, ◌++◌, length, take, Some, None, Ok, Err, Option, Result, nat_lt}
+use Rattle.std.specs.Prelude.{ℕ, suc, ◌-◌, ◌*◌, ◌^◌, cond, not, List, [], ◌∷◌, ◌++◌, length, take, Some, None, Option, Result, nat_lt}
 use Rattle.filter.specs.Filter.{Filter}
 use Rattle.model.specs.Tree.{neighbours, has}
 use Rattle.model.specs.Model.{Subscriber, Message, add, cut, notice, Network, known, dropped, known_up_to, with_subscribers, taken, step, join, leave, post, carry}
 use Rattle.model.specs.Model as model
 use Rattle.layout.specs.Parts.{tree}
-use Rattle.routing.specs.Rooms.{first, when, no_room_to_tell, no_room_to_pass, no_room_to_deliver}
+use Rattle.routing.specs.Rooms.{first, ok_unless, when, no_room_to_tell, no_room_to_pass, no_room_to_deliver}
 use Rattle.layout.specs.declared.opening.Opening.{Opening}
 use Rattle.layout.specs.declared.command.Command.{Command}
 use Rattle.layout.specs.declared.command.Command.TheVariants.{Join, Leave, Post, Carry}
@@ -77,13 +77,10 @@ outcome (Some r) done same = same
 unfoldable pub after : Opening → Network → Command → Network
 after o s d = outcome (refusal_of o s d) (step (tree o) s (command_of o d)) s
 
--- the answer: the refusal, or how many deliveries the command made
-abbrev pub answer : Option Refusal → ℕ → Result ℕ Refusal
-answer None made = Ok made
-answer (Some r) made = Err r
-
+-- how many deliveries the command made
 abbrev pub made : Opening → Network → Command → ℕ
 made o s d = length (after o s d).deliveries - length s.deliveries
 
+-- the answer: the refusal, or how many deliveries the command made
 unfoldable pub answer_to : Opening → Network → Command → Result ℕ Refusal
-answer_to o s d = answer (refusal_of o s d) (made o s d)
+answer_to o s d = ok_unless (refusal_of o s d) (made o s d)
