@@ -1,7 +1,6 @@
 -- What is read of a network's memory.
-use Rattle.std.proofs.Common.{◌≡◌, ℕ, ◌+◌, ◌<◌, List, get_or, sym, refl, subst, arith}
+use Rattle.std.proofs.Common.{◌≡◌, ℕ, ◌+◌, ◌<◌, List, sym, subst, arith}
 use Rattle.std.specs.List.{between}
-use Rattle.std.proofs.lemmas.List.{places}
 use Rattle.layout.specs.Plan.{many_of, size_of, start_of}
 use Rattle.layout.specs.Parts.{plan_of}
 use Rattle.layout.specs.Logs.{Delivers}
@@ -14,16 +13,8 @@ pub deliveries_one : (o : Opening) → 0 < many_of (plan_of o) 6
 unfolding many_of
 deliveries_one o = omega arith
 
-pub deliveries_size : (o : Opening) → size_of (plan_of o) 6 ≡ 131073
-unfolding size_of
-deliveries_size o = refl
-
 pub deliveries_lent : (o : Opening) (memory : List ℕ) → Formed o memory → (at stop : ℕ) → at ≡ start_of (plan_of o) 6 0 → stop ≡ start_of (plan_of o) 6 0 + size_of (plan_of o) 6 →
     Delivers (network_of o memory).deliveries (between at stop memory)
 deliveries_lent o memory h at stop p q =
     let e = lent_part (plan_of o) 6 0 at stop memory p q in
     subst (Delivers (network_of o memory).deliveries) (sym e) h.deliveries
-
--- the first word of a part
-pub first_word : (at stop : ℕ) (memory : List ℕ) → at < stop → get_or (between at stop memory) 0 0 ≡ get_or memory at 0
-first_word at stop memory h = grind (arith, places)

@@ -9,6 +9,7 @@ use Rattle.layout.specs.Parts.{tree, plan_of}
 use Rattle.layout.specs.State.{network_of}
 use Rattle.steps.specs.Sound.{Sound}
 use Rattle.layout.specs.declared.opening.Opening.{Opening}
+use Rattle.network.specs.declared.network.Network.{Network}
 use Rattle.layout.proofs.Encoded.{reads, formed, cleared_encodes}
 use Rattle.steps.proofs.Performing.{sound_prop}
 use Rattle.layout.proofs.Written.{tree_hung}
@@ -25,5 +26,5 @@ module _ (o : Opening) (memory : List ℕ) (enough : words_of (plan_of o) ≤ le
       }
 
 -- what stands in the type of every network
-pub network_sound : (o : Opening) (memory : List ℕ) → ∥ Sound o memory ∥₁ → Sound o memory
-network_sound o memory h = ∥∥₁_elim h (sound_prop o memory) (λ s. s)
+pub network_sound : (n : Network) → Sound n.opening n.memory.now
+network_sound n = ∥∥₁_elim n.sound (sound_prop n.opening n.memory.now) (λ s. s)

@@ -1,9 +1,7 @@
 -- What is read from a part between two brokers, piece by piece.
-use Rattle.std.proofs.Common.{◌≡◌, ℕ, ◌+◌, ◌-◌, ◌*◌, ◌<◌, ◌≤◌, Bool, true, false, cond, ltb, List, [], map, length, get_or, take, drop, Some, None, Option, sym, refl, ap, ◌∙◌, arith, MatchOption}
-use Rattle.std.proofs.lemmas.List.{drop_more, drop-drop, length-map}
-use Rattle.std.proofs.lemmas.Bool.{ltb-true, ltb-false}
-use Rattle.cover.specs.Table.{held}
-use Rattle.cover.proofs.RowLaws.{get_d_rows}
+use Rattle.std.proofs.Common.{◌≡◌, ℕ, ◌<◌, ◌≤◌, false, cond, ltb, List, [], map, length, get_or, Some, None, Option, sym, ap, ◌∙◌, arith, MatchOption}
+use Rattle.std.proofs.lemmas.List.{drop_more, length-map}
+use Rattle.std.proofs.lemmas.Bool.{ltb-true, ltb-false, false_from_ne_true}
 use Rattle.channel.specs.Message.{words, message as meant}
 use Rattle.channel.specs.declared.message.Message.{Message as Sent}
 use Rattle.model.specs.Tree.{edge}
@@ -17,18 +15,10 @@ use Rattle.layout.proofs.Written.{edge_brokers}
 
 -- a broker that is not there is beside none
 pub no_first : (o : Opening) (a b : ℕ) → ltb a o.brokers ≡ false → edge (tree o) a b ≡ false
-no_first o a b h = go (edge (tree o) a b) refl
-  where
-    go : (t : Bool) → edge (tree o) a b ≡ t → t ≡ false
-    go false e = refl
-    go true e = absurd (omega (arith, ltb-false a o.brokers h, (edge_brokers o a b e).0))
+no_first o a b h = false_from_ne_true (edge (tree o) a b) (λ e. omega (arith, ltb-false a o.brokers h, (edge_brokers o a b e).0))
 
 pub no_second : (o : Opening) (a b : ℕ) → ltb b o.brokers ≡ false → edge (tree o) a b ≡ false
-no_second o a b h = go (edge (tree o) a b) refl
-  where
-    go : (t : Bool) → edge (tree o) a b ≡ t → t ≡ false
-    go false e = refl
-    go true e = absurd (omega (arith, ltb-false b o.brokers h, (edge_brokers o a b e).1))
+no_second o a b h = false_from_ne_true (edge (tree o) a b) (λ e. omega (arith, ltb-false b o.brokers h, (edge_brokers o a b e).1))
 
 -- what was asked for at a place of a channel is not there, or is the message at that place
 pub piece_read : (room m : ℕ) (ms : List Message) (ws : List ℕ) → Carries room m ms ws → m ≤ 8 → (i : ℕ) (r : Option Sent) →
@@ -43,10 +33,3 @@ piece_read room m ms ws c few i (Some x) asked =
     let h : i < length ms = omega arith in
     let n = (message_at room m ms ws c few i x asked).0 in
     (h, sym (ap (λ ps. piece_in ps 0) n) ∙ ap (λ ps. piece_in ps 0) (drop_more ms i (notice 0 []) h))
-
--- the words of a filter of a table, from behind the count on
-pub filter_read : (w i : ℕ) (t : List ℕ) → i < get_or t 0 0 → take (1 + w * i + w - (1 + w * i)) (drop (1 + w * i) t) ≡ get_or (held w t) i []
-unfolding held
-filter_read w i t h =
-    let n : 1 + w * i + w - (1 + w * i) ≡ w = omega arith in
-    ap (λ k. take k (drop (1 + w * i) t)) n ∙ ap (take w) (sym (drop-drop (w * i) 1 t)) ∙ sym (get_d_rows w (get_or t 0 0) i (drop 1 t) h)

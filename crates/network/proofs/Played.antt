@@ -1,8 +1,11 @@
 -- Commands played one after the other.
-use Rattle.std.proofs.Common.{◌≡◌, ℕ, ◌+◌, ◌<◌, ◌≤◌, List, length, get_or, drop, Ok, Err, Result, sym, ap, ◌∙◌, arith}
+use Rattle.std.proofs.Common.{◌≡◌, ℕ, ◌+◌, ◌<◌, ◌≤◌, true, false, List, length, get_or, drop, Some, None, Option, Result, refl, sym, ap, ◌∙◌, arith}
+use Rattle.std.specs.Result.{is_ok}
+use Rattle.std.proofs.lemmas.Bool.{both_ways}
 use Rattle.std.proofs.lemmas.List.{drop_more, drop_all}
 use Rattle.model.specs.Model.{empty}
 use Rattle.layout.specs.State.{network_of}
+use Rattle.routing.specs.Rooms.{ok_unless}
 use Rattle.steps.specs.Rules.{command_of, refusal_of, answer_to}
 use Rattle.steps.specs.Sound.{Sound, Performed}
 use Rattle.network.specs.Promised.{played, kept_if, done, KeptPromises}
@@ -10,7 +13,15 @@ use Rattle.layout.specs.declared.opening.Opening.{Opening}
 use Rattle.layout.specs.declared.command.Command.{Command}
 use Rattle.layout.specs.declared.refusal.Refusal.{Refusal}
 use Rattle.network.proofs.Promising.{kept_promises}
-use Rattle.steps.proofs.Restored.{answer_refused, answer_done}
+
+-- what an answer says of the refusal
+answer_refused : (q : Option Refusal) (n : ℕ) → is_ok (ok_unless q n) ≡ false → (e : Refusal) × (q ≡ Some e)
+answer_refused None n h = absurd (both_ways true h refl)
+answer_refused (Some r) n h = (r, refl)
+
+answer_done : (q : Option Refusal) (n : ℕ) → is_ok (ok_unless q n) ≡ true → q ≡ None
+answer_done None n h = refl
+answer_done (Some r) n h = absurd (both_ways false refl h)
 
 -- the first i commands of the list are played, and so many of them were done
 pub record Playing (o : Opening) (list : List Command) (memory : List ℕ) (many i : ℕ) : Type 0 where
@@ -38,17 +49,17 @@ module _ (o : Opening) (list : List Command) (memory : List ℕ) (many i : ℕ) 
       ap (λ ds. length (done o (network_of o memory) ds)) e
       ∙ ap (λ s. length (kept_if (refusal_of o (network_of o memory) (get_or list i d)) (command_of o (get_or list i d)) (done o s (drop (i + 1) list)))) (sym p.network)
 
-  pub playing_done : (k : ℕ) → r ≡ Ok k → Playing o list memory₁ (many + 1) (i + 1)
+  pub playing_done : is_ok r ≡ true → Playing o list memory₁ (many + 1) (i + 1)
   unfolding answer_to
-  playing_done k e =
-      let q = (answer_done _ _ k (sym e ∙ p.answer)).0 in
+  playing_done e =
+      let q = answer_done _ _ (ap is_ok (sym p.answer) ∙ e) in
       let f = first_done ∙ ap (λ x. length (kept_if x (command_of o (get_or list i d)) (done o (network_of o memory₁) (drop (i + 1) list)))) q in
       record { sound = p.sound; left = rest; counted = omega (arith, f, h.counted); few = omega (arith, h.few) }
 
-  pub playing_refused : (x : Refusal) → r ≡ Err x → Playing o list memory₁ many (i + 1)
+  pub playing_refused : is_ok r ≡ false → Playing o list memory₁ many (i + 1)
   unfolding answer_to
-  playing_refused x e =
-      let q = answer_refused _ _ x (sym e ∙ p.answer) in
+  playing_refused e =
+      let q = (answer_refused _ _ (ap is_ok (sym p.answer) ∙ e)).1 in
       let f = first_done ∙ ap (λ y. length (kept_if y (command_of o (get_or list i d)) (done o (network_of o memory₁) (drop (i + 1) list)))) q in
       record { sound = p.sound; left = rest; counted = omega (arith, f, h.counted); few = omega (arith, h.few) }
 

@@ -1,12 +1,12 @@
 -- The messages under way, replayed on a table one after the other: what of a test that has to last is still to be asked.
-use Rattle.std.proofs.Common.{◌≡◌, ℕ, ◌+◌, ◌-◌, ◌*◌, ◌<◌, ◌≤◌, Bool, true, false, cond, ◌&&◌, ltb, List, [], ◌∷◌, map, length, get_or, take, drop, Some, None, sym, refl, ap, ◌∙◌, subst, mul-le-mul_left, arith}
+use Rattle.std.proofs.Common.{◌≡◌, ℕ, ◌+◌, ◌*◌, ◌<◌, ◌≤◌, Bool, true, false, cond, ◌&&◌, ltb, List, [], ◌∷◌, map, length, get_or, drop, Some, None, sym, refl, ap, ◌∙◌, subst, mul-le-mul_left, arith}
 use Rattle.std.proofs.ByRecursion.{All-get_or}
 use Rattle.std.proofs.lemmas.List.{drop_more, drop_all, length-map, get_or-map}
 use Rattle.std.proofs.lemmas.Bool.{ltb-true, leb-true, le-leb}
 use Rattle.filter.specs.Filter.{Filter}
 use Rattle.cover.specs.Maximal.{any_covers}
 use Rattle.cover.specs.Sorted.{sorted}
-use Rattle.cover.specs.Table.{held, stored, laid, changed}
+use Rattle.cover.specs.Table.{held, stored, changed}
 use Rattle.broker.specs.Announcing.{Keeps}
 use Rattle.broker.proofs.Kept.{held_kept, length_kept, with_kept}
 use Rattle.channel.specs.Message.{words, message as meant}
@@ -17,12 +17,10 @@ use Rattle.model.specs.Promise.{lasts, covering}
 use Rattle.model.specs.Invariant.{short, bound, Fits}
 use Rattle.model.proofs.Tree.{edge_sym}
 use Rattle.model.proofs.Messages.{lasts_now, lasts_after, lasts_weaker, after_sorted}
-use Rattle.layout.specs.Memory.{table_words}
 use Rattle.layout.specs.Parts.{tree, filters_room}
 use Rattle.layout.specs.Mail.{row_for, message_in, Sized, Carries}
 use Rattle.layout.specs.State.{network_of}
 use Rattle.steps.specs.Sound.{Sound}
-use Rattle.layout.proofs.Sized.{table_size}
 use Rattle.layout.specs.declared.opening.Opening.{Opening}
 use Rattle.routing.proofs.Compared.{kept_whole}
 use Rattle.steps.proofs.Oldest.{read_back}
@@ -63,16 +61,15 @@ pub record Replaying (room m : ℕ) (P : List Filter → Bool) (ms : List Messag
   pub rest : lasts P ms fs ≡ lasts P (drop i ms) now
 
 pub replay_begins : (o : Opening) (memory : List ℕ) → Sound o memory → (a b : ℕ) → edge (tree o) a b ≡ true → (P : List Filter → Bool) (table : List ℕ) →
-    table ≡ laid (2 * o.ranges) (table_words o.ranges o.brokers o.subscribers) ((network_of o memory).learned b a) →
+    Keeps (filters_room o) o.ranges ((network_of o memory).learned b a) table →
     Replaying (filters_room o) o.ranges P ((network_of o memory).channel a b) ((network_of o memory).learned b a) 0 table
 unfolding Fits
-replay_begins o memory sound a b e P table is =
+replay_begins o memory sound a b e P table keeps =
     let s = network_of o memory in
     let back = edge_sym (tree o) b a ∙ e in
-    let k = sound.formed.learned a b e in
     record {
       now = s.learned b a;
-      words = record { words = is ∙ ap (λ k. laid (2 * o.ranges) k (s.learned b a)) (table_size o); wide = k.wide; fits = k.fits };
+      words = keeps;
       ordered = sound.invariant.right.tables.learned_sorted b a;
       short =
           lasts_weaker (short (bound (tree o) o.subscribers b a)) (short (filters_room o))
@@ -84,7 +81,7 @@ replay_begins o memory sound a b e P table is =
       rest = refl;
     }
 
-module _ (room m : ℕ) (P : List Filter → Bool) (ms : List Message) (fs : List Filter) (i : ℕ) (table : List ℕ) (h : Replaying room m P ms fs i table) where
+module _ {room m : ℕ} {P : List Filter → Bool} {ms : List Message} {fs : List Filter} {i : ℕ} {table : List ℕ} (h : Replaying room m P ms fs i table) where
   pub replay_whole : (w : ℕ) → w ≡ 2 * m → 1 + w * get_or table 0 0 ≤ length table
   replay_whole w e = rw e (kept_whole room m h.now table h.words)
 
@@ -128,15 +125,7 @@ module _ (room m : ℕ) (P : List Filter → Bool) (ms : List Message) (fs : Lis
           rest = h.rest ∙ ap (λ ns. lasts P ns h.now) next ∙ lasts_more P p (drop (i + 1) ms) h.now holds;
         }
 
--- whether a filter of the table covers f
-pub replay_covers : (room m : ℕ) (P : List Filter → Bool) (ms : List Message) (fs : List Filter) (i : ℕ) (table : List ℕ) (h : Replaying room m P ms fs i table) (f : Filter) →
-    length f ≡ 2 * m → any_covers (held (length f) table) f ≡ covering f h.now
-replay_covers room m P ms fs i table h f l = ap (λ w. any_covers (held w table) f) l ∙ ap (λ gs. any_covers gs f) (held_kept room m h.now table h.words)
-
--- the words of a table, from where they were saved
-pub saved_table : (room m : ℕ) (fs : List Filter) (ws saved : List ℕ) → Keeps room m fs ws → take (length ws) saved ≡ ws → (size words : ℕ) → size ≡ words → words ≡ 1 + 2 * m * room →
-    take (size - 0) saved ≡ laid (2 * m) words fs
-saved_table room m fs ws saved k e size words is sized =
-    let l = length_kept room m fs ws k in
-    let n : size - 0 ≡ length ws = omega arith in
-    ap (λ j. take j saved) n ∙ e ∙ k.words ∙ ap (λ j. laid (2 * m) j fs) (sym sized)
+  -- whether a row of the table covers f
+  pub replay_covers : (f : Filter) → length f ≡ 2 * m → (rows : List Filter) → rows ≡ held (length f) table → (v : Bool) → v ≡ any_covers rows f → v ≡ covering f h.now
+  replay_covers f l rows e v q =
+      q ∙ ap (λ gs. any_covers gs f) (e ∙ ap (λ w. held w table) l ∙ held_kept room m h.now table h.words)

@@ -2,10 +2,8 @@
 // commands and refusals, and the functions that demand the promises stand in the crates below, and are to be had from here too.
 #![tactic(auto)]
 
-mod asking;
 pub mod network;
 pub mod playing;
-mod reading;
 
 pub use layout::{Command, Opening, Refusal, Rooms, command, links, memory, opening, refusal};
 pub use model::{examples, promises};

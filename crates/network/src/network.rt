@@ -3,7 +3,10 @@ ghost use Rattle.steps.specs.Sound.{Sound};
 
 use layout::Opening;
 
+mod asking;
 pub mod calls;
+mod parts;
+mod reading;
 
 #[derive(Drop)]
 pub struct Network<'a> {

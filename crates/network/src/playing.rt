@@ -21,13 +21,11 @@ pub fn play(memory: &mut [u64], opening: &Opening, list: &[Command]) -> Result<u
         × (e ≡ Refusal.BadOpening (length memory.old))
         × (memory.new ≡ memory.old)) }
 {
-    if memory.len() < opening.words() {
-        return Err(Refusal::BadOpening(memory.len() as u64));
-    }
+    opening.fits(memory)?;
     memory.fill(0);
     let mut many = 0;
     for command in list {
-        if let Ok(_) = commands::perform(memory, opening, *command) {
+        if commands::perform(memory, opening, *command).is_ok() {
             many += 1;
         }
     }

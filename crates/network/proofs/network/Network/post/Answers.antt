@@ -4,7 +4,7 @@ use Rattle.network.proofs.Promising.{promised_after}
 use Rattle.network.proofs.network.Network.post.Goals as goal
 
 pub post-requires : goal.post-requires
-post-requires c = network_sound c.args.self.now.opening c.args.self.now.memory.now c.args.self.now.sound
+post-requires c = network_sound c.args.self.now
 
 pub invariant_of-self : goal.invariant_of-self
 invariant_of-self c = record { sound = ∣ c.post.ensures.sound ∣₁ }
@@ -14,7 +14,7 @@ returns c =
     let n = c.args.self.now in
     record {
       done = c.post.ensures;
-      promised = λ r. promised_after n.opening n.memory.now (network_sound n.opening n.memory.now n.sound) c.args.broker c.args.number c.args.notice _ r c.post.ensures.network;
+      promised = λ r. promised_after n.opening n.memory.now (network_sound n) c.args.broker c.args.number c.args.notice _ r c.post.ensures.network;
       same = refl;
       opening = refl;
     }
