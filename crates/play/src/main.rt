@@ -1,11 +1,15 @@
 // Plays a script: reads it from a file or from standard input, and prints the refusal of a bad opening, or what the script holds.
 #![tactic(auto)]
 
-use layout::{Command, Rooms};
+ghost use Rattle.std.specs.Prelude.{◌≡◌, ◌+◌, ◌-◌, ◌<◌, ◌≤◌, length};
+ghost use Rattle.play.specs.Tally.{total, counted};
+
+use layout::{Command, Opening, Rooms};
 use script::{Fault, Reader, Unopened};
 use std::io::Read;
 use std::process::ExitCode;
-use std::{env, fs};
+use std::{env, fmt, fs, io};
+use thiserror::Error;
 
 const USAGE: &str = "usage: play [SCRIPT]
 Plays a script: the opening of a network, then commands. Without SCRIPT it is read from standard input.";
@@ -16,118 +20,110 @@ const ROOMS: Rooms = Rooms {
     messages: 64,
 };
 
+// Why a script was not played to its end.
+#[derive(Debug, Drop, Error)]
+enum Failure {
+    #[error("{USAGE}")]
+    Misused,
+    #[error("play: cannot read {path}: {error}")]
+    Unreadable { path: String, error: io::Error },
+    #[error("play: {0}")]
+    Faulty(#[from] Fault),
+    // Standard input cannot be read, or what is printed not written.
+    #[error(transparent)]
+    Io(#[from] io::Error),
+}
+
 // How many commands of each kind there are.
-#[derive(Clone, Copy)]
+#[derive(Clone, Copy, Default, Debug)]
 struct Tally {
-    joins: u64,
-    leaves: u64,
-    posts: u64,
-    carries: u64,
+    joins: usize,
+    leaves: usize,
+    posts: usize,
+    carries: usize,
 }
 
 impl Tally {
-    fn count(&mut self, command: Command) {
+    fn count(&mut self, command: Command)
+        requires { total self.old < usize.MAX }
+        ensures { self.new ≡ counted self.old command }
+    {
         match command {
-            Command::Join { .. } => self.joins = self.joins.saturating_add(1),
-            Command::Leave { .. } => self.leaves = self.leaves.saturating_add(1),
-            Command::Post { .. } => self.posts = self.posts.saturating_add(1),
-            Command::Carry { .. } => self.carries = self.carries.saturating_add(1),
+            Command::Join { .. } => self.joins += 1,
+            Command::Leave { .. } => self.leaves += 1,
+            Command::Post { .. } => self.posts += 1,
+            Command::Carry { .. } => self.carries += 1,
         }
+    }
+
+    // Counts the commands up to the script's end, or to a fault.
+    fn count_all(&mut self, reader: &mut Reader, opening: &Opening) -> Result<(), Fault>
+        requires { total self.old + (length reader.old.input.now - reader.old.at) ≤ usize.MAX }
+    {
+        while let Some(command) = reader.command(opening)? {
+            self.count(command);
+        }
+        Ok(())
     }
 }
 
-fn print(rt: &HostRuntime, tally: Tally) -> anyhow::Result<ExitCode> {
-    let Tally {
-        joins,
-        leaves,
-        posts,
-        carries,
-    } = tally;
-    println!(rt; "{joins} join, {leaves} leave, {posts} post, {carries} carry")?;
-    Ok(ExitCode::SUCCESS)
-}
-
-fn faulty(rt: &HostRuntime, fault: Fault) -> anyhow::Result<ExitCode> {
-    eprintln!(rt; "play: {fault}")?;
-    Ok(ExitCode::FAILURE)
-}
-
-// A refused opening has been played to its end, and a script without a whole opening is faulty.
-fn unopened(rt: &HostRuntime, why: Unopened) -> anyhow::Result<ExitCode> {
-    match why {
-        Unopened::Refused(refusal) => {
-            println!(rt; "{refusal}")?;
-            Ok(ExitCode::SUCCESS)
-        }
-        Unopened::Faulty(fault) => faulty(rt, fault),
+impl fmt::Display for Tally {
+    fn fmt<W: fmt::Write>(&self, f: &mut fmt::Formatter<W>) -> fmt::Result {
+        let Tally {
+            joins,
+            leaves,
+            posts,
+            carries,
+        } = self;
+        write!(
+            f,
+            "{joins} join, {leaves} leave, {posts} post, {carries} carry"
+        )
     }
 }
 
-fn play(rt: &HostRuntime, script: &[u8]) -> anyhow::Result<ExitCode> {
+fn play(rt: &HostRuntime, script: &[u8]) -> Result<(), Failure> {
     let mut reader = Reader::new(script);
     let opening = match reader.opening(ROOMS) {
         Ok(opening) => opening,
-        Err(why) => return unopened(rt, why),
+        // A refused opening has been played to its end.
+        Err(Unopened::Refused(refusal)) => return Ok(println!(rt; "{refusal}")?),
+        Err(Unopened::Faulty(fault)) => return Err(Failure::Faulty(fault)),
     };
-    let mut tally = Tally {
-        joins: 0,
-        leaves: 0,
-        posts: 0,
-        carries: 0,
-    };
-    for _ in 0..script.len() {
-        match reader.command(&opening) {
-            Ok(Some(command)) => tally.count(command),
-            Ok(None) => break,
-            Err(fault) => {
-                print(rt, tally)?;
-                return faulty(rt, fault);
-            }
-        }
-    }
-    print(rt, tally)
+    let mut tally = Tally::default();
+    let end = tally.count_all(&mut reader, &opening);
+    println!(rt; "{tally}")?;
+    Ok(end?)
 }
 
-// The bytes of the file, or none where it cannot be read, once that was told.
-fn read(rt: &HostRuntime, path: &str) -> anyhow::Result<Option<Vec<u8>>> {
-    match fs::read(rt, path) {
-        Ok(script) => Ok(Some(script)),
-        Err(error) => {
-            eprintln!(rt; "play: cannot read {path}: {error}")?;
-            Ok(None)
-        }
+fn run(rt: &HostRuntime) -> Result<(), Failure> {
+    let mut args = env::args(rt)?;
+    let _program = args.next();
+    let Some(word) = args.next() else {
+        let mut script = Vec::new(rt.alloc());
+        rt.stdin().read_to_end(&mut script)?;
+        return play(rt, &script);
+    };
+    if args.next().is_some() {
+        return Err(Failure::Misused);
     }
-}
-
-fn misused(rt: &HostRuntime) -> anyhow::Result<ExitCode> {
-    eprintln!(rt; "{USAGE}")?;
-    Ok(ExitCode::FAILURE)
+    match word.as_str() {
+        "--help" => Ok(println!(rt; "{USAGE}")?),
+        option if option.starts_with("--") => Err(Failure::Misused),
+        path => match fs::read(rt, path) {
+            Ok(script) => play(rt, &script),
+            Err(error) => Err(Failure::Unreadable { path: word, error }),
+        },
+    }
 }
 
 fn main(rt: HostRuntime) -> anyhow::Result<ExitCode> {
-    let heap = rt.alloc();
-    let mut args = env::args(&rt)?;
-    let _program = args.next();
-    match (args.next(), args.next()) {
-        (None, _) => {
-            let mut script = Vec::new(heap);
-            rt.stdin().read_to_end(&mut script)?;
-            play(&rt, &script)
+    match run(&rt) {
+        Ok(()) => Ok(ExitCode::SUCCESS),
+        Err(Failure::Io(error)) => Err(error.into()),
+        Err(failure) => {
+            eprintln!(rt; "{failure}")?;
+            Ok(ExitCode::FAILURE)
         }
-        (Some(word), None) => {
-            let word = word.as_str();
-            if word == "--help" {
-                println!(rt; "{USAGE}")?;
-                return Ok(ExitCode::SUCCESS);
-            }
-            if word.starts_with("--") {
-                return misused(&rt);
-            }
-            let Some(script) = read(&rt, word)? else {
-                return Ok(ExitCode::FAILURE);
-            };
-            play(&rt, &script)
-        }
-        (Some(_), Some(_)) => misused(&rt),
     }
 }

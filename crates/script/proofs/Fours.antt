@@ -1,12 +1,13 @@
 -- Numbers of four bytes, one after the other.
-use Rattle.std.proofs.Common.{◌≡◌, ℕ, zero, suc, ◌+◌, ◌*◌, ◌/◌, ◌%◌, ◌<◌, ◌≤◌, true, List, [], ◌∷◌, ◌++◌, length, get_or, take, drop, set, refl, ap, arith, ltb-true}
-use lib.Arith.{digits_div, digits_mod}
-use lib.Seq.{paste}
-use Rattle.std.proofs.lemmas.List.{get_or-append-add, drop_more, take_more, take_all, flat_map_more, length-append}
-use Rattle.std.proofs.lemmas.List.Edits.{paste-paste, take-paste}
+use Rattle.std.proofs.Common.{◌≡◌, ℕ, zero, suc, ◌+◌, ◌*◌, ◌/◌, ◌<◌, ◌≤◌, true, List, [], ◌∷◌, ◌++◌, length, get_or, take, drop, refl, ap, ◌∙◌, arith, ltb-true}
+use Rattle.std.proofs.Math.Nat.{div-div-eq-div-mul}
+use Rattle.std.proofs.lemmas.Nat.{le_bytes_4}
+use Rattle.std.proofs.lemmas.List.{get_or-take, get_or-drop, drop-drop, get_or-append-add, drop_more}
 use Rattle.std.proofs.lemmas.Bool.{and_parts}
 use Rattle.std.proofs.lemmas.Bool.Decides.{nat_tests}
+use Rattle.std.specs.Int.{w32, from_le_bytes, to_le_bytes}
 use Rattle.std.specs.List.{flat_map}
+use Rattle.std.specs.Simd.{first_chunks}
 use Rattle.script.specs.Script.{number_at, numbers_at}
 use Rattle.script.specs.Writing.{four_bytes, small, all_small, Bytes}
 
@@ -20,6 +21,35 @@ numbers_more (suc n) xs i =
     let f : suc n + 1 ≡ suc (n + 1) = omega arith in
     rw (e, f) (ap (λ ys. number_at xs i ∷ ys) (numbers_more n xs (i + 4)))
 
+-- the chunks of four bytes from a place on, as the numbers there
+chunk_at : (n i : ℕ) (xs : List ℕ) → i < n → get_or (first_chunks 4 n xs) i [] ≡ take 4 (drop (4 * i) xs)
+chunk_at zero i xs h = absurd (omega arith)
+chunk_at (suc n) zero xs h = refl
+chunk_at (suc n) (suc i) xs h =
+    let r = chunk_at n i (drop 4 xs) (omega arith) in
+    let d = drop-drop (4 * i) 4 xs in
+    let e : 4 * suc i ≡ 4 + 4 * i = omega arith in
+    cc
+
+chunk_byte : (n i j m : ℕ) (xs : List ℕ) (at : ℕ) → i < n → j < 4 → at + (4 * i + j) ≡ m →
+    get_or (take 4 (drop (4 * i) (take (4 * n) (drop at xs)))) j 0 ≡ get_or xs m 0
+chunk_byte n i j m xs at h k e =
+    let ys = take (4 * n) (drop at xs) in
+    get_or-take 4 (drop (4 * i) ys) j 0 k
+    ∙ (get_or-drop (4 * i) ys j 0
+    ∙ (get_or-take (4 * n) (drop at xs) (4 * i + j) 0 (omega arith)
+    ∙ (get_or-drop at xs (4 * i + j) 0 ∙ ap (λ l. get_or xs l 0) e)))
+
+pub chunk_number : (n i : ℕ) (xs : List ℕ) (at : ℕ) → i < n → from_le_bytes w32 (get_or (first_chunks 4 n (take (4 * n) (drop at xs))) i []) ≡ number_at xs (at + 4 * i)
+chunk_number n i xs at h =
+    let c = chunk_at n i (take (4 * n) (drop at xs)) h in
+    let m = at + 4 * i in
+    let p = chunk_byte n i 0 m xs at h (omega arith) (omega arith) in
+    let q = chunk_byte n i 1 (m + 1) xs at h (omega arith) (omega arith) in
+    let r = chunk_byte n i 2 (m + 2) xs at h (omega arith) (omega arith) in
+    let s = chunk_byte n i 3 (m + 3) xs at h (omega arith) (omega arith) in
+    rw c (omega arith)
+
 pub length_numbers : (n : ℕ) (xs : List ℕ) (i : ℕ) → length (numbers_at n xs i) ≡ n
 length_numbers zero xs i = refl
 length_numbers (suc n) xs i = ap suc (length_numbers n xs (i + 4))
@@ -29,12 +59,6 @@ length_fours [] = refl
 length_fours (n ∷ ns) =
     let r = length_fours ns in
     omega arith
-
-pub fours_more : (ns : List ℕ) (k : ℕ) → k < length ns → flat_map four_bytes (take (k + 1) ns) ≡ flat_map four_bytes (take k ns) ++ four_bytes (get_or ns k 0)
-fours_more ns k h =
-    let t = take_more ns k 0 h in
-    let j = flat_map_more four_bytes [] (take k ns) (get_or ns k 0) in
-    cc
 
 -- a place behind a front
 pub number_behind : (p ys : List ℕ) (i : ℕ) → number_at (p ++ ys) (length p + i) ≡ number_at ys i
@@ -60,27 +84,11 @@ numbers_behind (suc n) p ys i =
 pub number_of_four : (n : ℕ) (ys : List ℕ) → small n ≡ true → number_at (four_bytes n ++ ys) 0 ≡ n
 number_of_four n ys h = omega (arith, ltb-true)
 
-low_digit : (a b : ℕ) → a < 256 → (a + 256 * b) % 256 ≡ a
-low_digit a b h =
-    let p = digits_mod b {m = 256} {r = a} h in
-    let e : a + 256 * b ≡ b * 256 + a = omega arith in
-    cc
-
-high_digits : (a b : ℕ) → a < 256 → (a + 256 * b) / 256 ≡ b
-high_digits a b h =
-    let p = digits_div b {m = 256} {r = a} h in
-    let e : a + 256 * b ≡ b * 256 + a = omega arith in
-    cc
-
-four_of_digits : (a b c d : ℕ) → a < 256 → b < 256 → c < 256 → d < 256 → four_bytes (a + 256 * (b + 256 * (c + 256 * d))) ≡ a ∷ b ∷ c ∷ d ∷ []
-four_of_digits a b c d p q r s =
-    let e = low_digit a (b + 256 * (c + 256 * d)) p in
-    let f = high_digits a (b + 256 * (c + 256 * d)) p in
-    let g = low_digit b (c + 256 * d) q in
-    let h = high_digits b (c + 256 * d) q in
-    let i = low_digit c d r in
-    let j = high_digits c d r in
-    let k : d % 256 ≡ d = omega arith in
+four_is : (n : ℕ) → four_bytes n ≡ to_le_bytes w32 n
+four_is n =
+    let p = div-div-eq-div-mul n 256 256 in
+    let q = div-div-eq-div-mul (n / 256) 256 256 in
+    let r = div-div-eq-div-mul n 256 65536 in
     cc
 
 take_four : (xs : List ℕ) (i n : ℕ) → i + 4 ≤ length xs →
@@ -96,9 +104,19 @@ take_four xs i n h =
     let k : 4 + n ≡ suc (suc (suc (suc n))) = omega arith in
     cc
 
+small_four : (a b c d : ℕ) → a < 256 → b < 256 → c < 256 → d < 256 → Bytes (a ∷ b ∷ c ∷ d ∷ [])
+small_four a b c d p q r s zero = p
+small_four a b c d p q r s (suc zero) = q
+small_four a b c d p q r s (suc (suc zero)) = r
+small_four a b c d p q r s (suc (suc (suc zero))) = s
+small_four a b c d p q r s (suc (suc (suc (suc i)))) = omega arith
+
 four_of_number : (xs : List ℕ) (i : ℕ) → Bytes xs →
     four_bytes (number_at xs i) ≡ get_or xs i 0 ∷ get_or xs (i + 1) 0 ∷ get_or xs (i + 2) 0 ∷ get_or xs (i + 3) 0 ∷ []
-four_of_number xs i b = four_of_digits (get_or xs i 0) (get_or xs (i + 1) 0) (get_or xs (i + 2) 0) (get_or xs (i + 3) 0) (b i) (b (i + 1)) (b (i + 2)) (b (i + 3))
+four_of_number xs i b =
+    let n = number_at xs i in
+    let four = get_or xs i 0 ∷ get_or xs (i + 1) 0 ∷ get_or xs (i + 2) 0 ∷ get_or xs (i + 3) 0 ∷ [] in
+    four_is n ∙ le_bytes_4 four n refl (small_four _ _ _ _ (b i) (b (i + 1)) (b (i + 2)) (b (i + 3))) (omega arith)
 
 pub small_number : (xs : List ℕ) (i : ℕ) → Bytes xs → small (number_at xs i) ≡ true
 small_number xs i b =
@@ -134,22 +152,3 @@ fours_of_numbers (suc n) xs i b h =
     let r = fours_of_numbers n xs (i + 4) b (omega arith) in
     let e : 4 * suc n ≡ 4 + 4 * n = omega arith in
     rw (e) (four_then xs i (4 * n) (flat_map four_bytes (numbers_at n xs (i + 4))) b (omega arith) r)
-
--- a front of six bytes and numbers behind it, written over the beginning of a row
-pub written_front : (bytes front ns : List ℕ) (k n : ℕ) → 6 ≤ length bytes → length front ≡ 6 → k ≡ length ns → n ≡ 4 * k →
-    take (6 + n) (paste (paste bytes 0 front 6) 6 (flat_map four_bytes ns) (4 * k)) ≡ front ++ flat_map four_bytes ns
-written_front bytes front ns k n h f l e =
-    let j = length_fours ns in
-    let a = length-append front (flat_map four_bytes ns) in
-    let p = paste-paste bytes 0 front (flat_map four_bytes ns) 6 (4 * k) (omega arith) (omega arith) (omega arith) in
-    let t = take-paste bytes 0 (front ++ flat_map four_bytes ns) (6 + 4 * k) (omega arith) (omega arith) in
-    let u = take_all (6 + 4 * k) (front ++ flat_map four_bytes ns) (omega arith) in
-    let z : 0 + (6 + 4 * k) ≡ 6 + n = omega arith in
-    let y : 0 + 6 ≡ 6 = omega arith in
-    cc
-
-pub three_written : (bytes : List ℕ) (a b c : ℕ) → 3 ≤ length bytes → take 3 (set (set (set bytes 0 a) 1 b) 2 c) ≡ a ∷ b ∷ c ∷ []
-three_written [] a b c h = absurd (omega arith)
-three_written (x ∷ []) a b c h = absurd (omega arith)
-three_written (x ∷ y ∷ []) a b c h = absurd (omega arith)
-three_written (x ∷ y ∷ z ∷ bytes) a b c h = refl

@@ -11,7 +11,7 @@ use Rattle.filter.specs.declared.value.Notice.{Notice}
 use Rattle.layout.specs.declared.command.Command.{Command}
 use Rattle.layout.specs.declared.command.Command.TheVariants.{Join, Leave, Post, Carry}
 use Rattle.script.specs.declared.fault.Fault.TheVariants.{Cut}
-use Rattle.script.specs.Script.{number_at, numbers_at, size, part_at, command_at, reading, reading_kind, kind_of, found, ended, faulty}
+use Rattle.script.specs.Script.{number_at, numbers_at, size, part_at, command_at, reading, reading_kind, kind_of, first_byte, found, ended, faulty}
 use Rattle.script.specs.Writing.{four_bytes, written, small, all_small, fits, Clean, Bytes, ReadsWhatWasWritten, WritesWhatWasRead}
 use Rattle.script.specs.declared.kind.Kind.{Kind}
 use Rattle.script.specs.declared.kind.Kind.TheVariants as kinds
@@ -159,15 +159,8 @@ take_two xs i n h =
     let k : 2 + n ≡ suc (suc n) = omega arith in
     cc
 
-first_byte : Kind → ℕ
-first_byte kinds.Join = 0
-first_byte kinds.Leave = 1
-first_byte kinds.Post = 2
-first_byte kinds.Carry = 3
-
 -- the first byte of a command of a kind
 begins_with : (b : ℕ) (k : Kind) → kind_of b ≡ Some k → b ≡ first_byte k
-unfolding first_byte
 begins_with b kinds.Join e = grind (arith, nat_tests)
 begins_with b kinds.Leave e = grind (arith, nat_tests)
 begins_with b kinds.Post e = grind (arith, nat_tests)
@@ -202,7 +195,6 @@ both p q = cc
 written_kind : (ranges : ℕ) (xs : List ℕ) (at : ℕ) (k : Kind) → ranges ≤ 8 → Bytes xs → kind_of (get_or xs at 0) ≡ Some k → at + size ranges k ≤ length xs →
     let c = command_at ranges k xs at in
     (fits ranges c ≡ true) × Clean ranges c × (written ranges c ≡ take (size ranges k) (drop at xs))
-unfolding first_byte
 written_kind ranges xs at kinds.Join h b e l =
     let p = held 16 (2 * ranges) xs (at + 6) (omega arith) in
     let s = ap all_small p ∙ small_numbers (2 * ranges) xs (at + 6) b in

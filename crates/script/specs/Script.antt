@@ -18,6 +18,13 @@ use Rattle.script.specs.declared.kind.Kind.TheVariants as kinds
 abbrev pub kind_of : ℕ → Option Kind
 kind_of b = cond (b == 0) (Some kinds.Join) (cond (b == 1) (Some kinds.Leave) (cond (b == 2) (Some kinds.Post) (cond (b == 3) (Some kinds.Carry) None)))
 
+-- and the first byte of a command of a kind
+abbrev pub first_byte : Kind → ℕ
+first_byte kinds.Join = 0
+first_byte kinds.Leave = 1
+first_byte kinds.Post = 2
+first_byte kinds.Carry = 3
+
 -- how many bytes a command takes: its first, then a byte for each broker and four for any other number
 abbrev pub size : ℕ → Kind → ℕ
 size ranges kinds.Join = 6 + 8 * ranges

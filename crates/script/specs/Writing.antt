@@ -1,6 +1,6 @@
 -- The bytes of a command, and that reading and writing undo each other.
 use Rattle.std.specs.Prelude.{◌≡◌, ℕ, ◌+◌, ◌*◌, ◌/◌, ◌%◌, ◌^◌, ◌<◌, ◌≤◌, Bool, true, ◌&&◌, List, [], ◌∷◌, ◌++◌, length, take, nat_lt, slice_index}
-use Rattle.std.specs.List.{flat_map, between}
+use Rattle.std.specs.List.{flat_map, list_all, between}
 use Rattle.filter.specs.Filter.{padded}
 use Rattle.layout.specs.declared.command.Command.{Command}
 use Rattle.layout.specs.declared.command.Command.TheVariants.{Join, Leave, Post, Carry}
@@ -21,8 +21,7 @@ abbrev pub small : ℕ → Bool
 small n = nat_lt n (2 ^ 32)
 
 abbrev pub all_small : List ℕ → Bool
-all_small [] = true
-all_small (n ∷ ns) = small n && all_small ns
+all_small ns = list_all small ns
 
 -- the command's brokers fit a byte, and its other numbers four
 abbrev pub fits : ℕ → Command → Bool

@@ -1,7 +1,8 @@
 // What is wrong with a script: that it ends too soon, or that a command begins with a byte that means none.
 
-ghost use Rattle.std.specs.Prelude.{Some};
+ghost use Rattle.std.specs.Prelude.{◌≡◌, Some};
 ghost use Rattle.script.specs.Messages.{expected_text, fault_text};
+ghost use Rattle.script.specs.declared.fault.Unopened.TheVariants.{Faulty, Refused};
 
 use layout::Refusal;
 use std::fmt;
@@ -35,10 +36,26 @@ pub enum Fault {
 }
 
 // Why no network was opened: the script does not hold a whole opening, or the one that it holds is refused.
-#[derive(Clone, Copy)]
+#[derive(Clone, Copy, PartialEq, Eq, Debug)]
 pub enum Unopened {
     Faulty(Fault),
     Refused(Refusal),
+}
+
+impl From<Fault> for Unopened {
+    ghost from_gives = { λ fault r. r ≡ Faulty fault };
+
+    fn from(fault: Fault) -> Unopened {
+        Unopened::Faulty(fault)
+    }
+}
+
+impl From<Refusal> for Unopened {
+    ghost from_gives = { λ refusal r. r ≡ Refused refusal };
+
+    fn from(refusal: Refusal) -> Unopened {
+        Unopened::Refused(refusal)
+    }
 }
 
 impl fmt::Display for Expected {

@@ -8,5 +8,5 @@ pub mod reader;
 pub mod writer;
 
 pub use fault::{Expected, Fault, Unopened};
-pub use kind::Kind;
+pub use kind::{Kind, UnknownKind};
 pub use reader::Reader;

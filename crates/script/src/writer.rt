@@ -1,15 +1,18 @@
 // Commands written as the bytes of a script.
-ghost use Rattle.std.specs.Prelude.{◌≡◌, ◌+◌, ◌*◌, ◌<◌, ◌≤◌, true, false, ◌∷◌, ◌++◌, length, take, is_ok, if◌then◌else◌, Err, ◌≢◌};
-ghost use Rattle.std.proofs.Math.Seq.{paste};
+ghost use Rattle.std.specs.Prelude.{◌≡◌, ◌+◌, ◌*◌, ◌<◌, ◌≤◌, true, false, ◌∷◌, ◌++◌, length, nat_lt, is_ok, if◌then◌else◌, Err, ◌≢◌};
 ghost use Rattle.std.specs.List.{flat_map};
 ghost use Rattle.script.specs.declared.writer.Unwritten.TheVariants.{TooLarge, NoMemory};
-ghost use Rattle.script.specs.Writing.{four_bytes, all_small, fits, written, ReadsWhatWasWritten, WritesWhatWasRead};
+ghost use Rattle.arrayvec.specs.ArrayVec.{array_vec_len};
+ghost use Rattle.script.specs.Script.{first_byte};
+ghost use Rattle.script.specs.Writing.{four_bytes, small, all_small, fits, written, ReadsWhatWasWritten, WritesWhatWasRead};
 
+use crate::Kind;
+use arrayvec::ArrayVec;
 use layout::{Command, Opening};
 use std::alloc::AllocError;
 
 // Why a command was not written.
-#[derive(Clone, Copy, Debug)]
+#[derive(Clone, Copy, PartialEq, Eq, Debug)]
 pub enum Unwritten {
     // A broker does not fit a byte, or another number four.
     TooLarge,
@@ -24,49 +27,58 @@ impl From<AllocError> for Unwritten {
     }
 }
 
-// Writes the four bytes of a number from `at` on.
-fn put_number(bytes: &mut [u8], at: usize, n: u64)
-    requires { at + 4 ≤ length bytes.old }
-    ensures { bytes.new ≡ paste bytes.old at (four_bytes n) 4 }
+// The bytes of one command; a join of eight ranges has as many as there is room for.
+type Bytes = ArrayVec<u8, 70>;
+
+// A command's first six bytes.
+fn front(kind: Kind, broker: u64, number: u64) -> Bytes
+    requires { (broker < 256) × (small number ≡ true) }
+    ensures { result.items ≡ first_byte kind ∷ broker ∷ four_bytes number }
 {
-    let four = [
-        (n % 256) as u8,
-        (n / 256 % 256) as u8,
-        (n / 256 / 256 % 256) as u8,
-        (n / 256 / 256 / 256 % 256) as u8,
-    ];
-    bytes[at..at + 4].copy_from_slice(&four);
+    let mut bytes = Bytes::new();
+    bytes.push(u8::from(kind));
+    bytes.push(broker as u8);
+    put_number(&mut bytes, number);
+    bytes
 }
 
-// Writes the numbers from `at` on.
-fn put_numbers(bytes: &mut [u8], at: usize, numbers: &[u64])
-    requires { (at + 4 * length numbers.now ≤ length bytes.old) × (length numbers.now ≤ 16) }
-    ensures { bytes.new ≡ paste bytes.old at (flat_map four_bytes numbers.now) (4 * length numbers.now) }
+// Appends the four bytes of a number.
+fn put_number(bytes: &mut Bytes, n: u64)
+    requires { (array_vec_len bytes.old + 4 ≤ 70) × (small n ≡ true) }
+    ensures { bytes.new.items ≡ bytes.old.items ++ four_bytes n }
 {
-    for k in 0..numbers.len() {
-        put_number(bytes, at + 4 * k, numbers[k]);
+    let four = (n as u32).to_le_bytes();
+    bytes.try_extend_from_slice(&four).unwrap();
+}
+
+// Appends the numbers, four bytes each.
+fn put_numbers(bytes: &mut Bytes, numbers: &[u64])
+    requires { (array_vec_len bytes.old + 4 * length numbers.now ≤ 70) × (all_small numbers.now ≡ true) }
+    ensures { bytes.new.items ≡ bytes.old.items ++ flat_map four_bytes numbers.now }
+{
+    for n in numbers {
+        put_number(bytes, *n);
     }
 }
 
-// Writes a command's first six bytes.
-fn put_front(bytes: &mut [u8], first: u8, broker: u64, number: u64)
-    requires { (6 ≤ length bytes.old) × (broker < 256) }
-    ensures { bytes.new ≡ paste bytes.old 0 (first ∷ broker ∷ four_bytes number) 6 }
+// Whether a number fits four bytes.
+fn is_small(n: u64) -> bool
+    ensures { result ≡ small n }
 {
-    bytes[0] = first;
-    bytes[1] = broker as u8;
-    put_number(bytes, 2, number);
+    u32::try_from(n).is_ok()
 }
 
 fn all_small(numbers: &[u64]) -> bool
     ensures { result ≡ all_small numbers.now }
 {
-    for n in numbers {
-        if *n >= 1 << 32 {
-            return false;
-        }
-    }
-    true
+    numbers.iter().all(|n| is_small(*n))
+}
+
+// Whether a broker fits a byte.
+fn is_byte(n: u64) -> bool
+    ensures { result ≡ nat_lt n 256 }
+{
+    u8::try_from(n).is_ok()
 }
 
 // Whether the command's brokers fit a byte, and its other numbers four.
@@ -79,22 +91,21 @@ pub fn fits(command: Command, opening: &Opening) -> bool
             broker,
             number,
             filter,
-        } => broker < 256 && number < 1 << 32 && all_small(&filter.bounds[0..2 * ranges]),
-        Command::Leave { broker, number } => broker < 256 && number < 1 << 32,
+        } => is_byte(broker) && is_small(number) && all_small(&filter.bounds[..2 * ranges]),
+        Command::Leave { broker, number } => is_byte(broker) && is_small(number),
         Command::Post {
             broker,
             number,
             notice,
-        } => broker < 256 && number < 1 << 32 && all_small(&notice.numbers[0..ranges]),
-        Command::Carry { from, to } => from < 256 && to < 256,
+        } => is_byte(broker) && is_small(number) && all_small(&notice.numbers[..ranges]),
+        Command::Carry { from, to } => is_byte(from) && is_byte(to),
     }
 }
 
-// Writes a command that fits over the front of `bytes`, and says how many it took.
-fn encode(bytes: &mut [u8], command: Command, ranges: usize) -> usize
-    requires { (length bytes.old ≡ 70) × ((ranges ≤ 8) × (fits ranges command ≡ true)) }
-    ensures size { result ≤ 70 }
-    ensures front { take result bytes.new ≡ written ranges command }
+// The bytes of a command that fits.
+fn encoded(command: Command, ranges: usize) -> Bytes
+    requires { (ranges ≤ 8) × (fits ranges command ≡ true) }
+    ensures { result.items ≡ written ranges command }
 {
     match command {
         Command::Join {
@@ -102,28 +113,26 @@ fn encode(bytes: &mut [u8], command: Command, ranges: usize) -> usize
             number,
             filter,
         } => {
-            put_front(bytes, 0, broker, number);
-            put_numbers(bytes, 6, &filter.bounds[0..2 * ranges]);
-            6 + 8 * ranges
+            let mut bytes = front(Kind::Join, broker, number);
+            put_numbers(&mut bytes, &filter.bounds[..2 * ranges]);
+            bytes
         }
-        Command::Leave { broker, number } => {
-            put_front(bytes, 1, broker, number);
-            6
-        }
+        Command::Leave { broker, number } => front(Kind::Leave, broker, number),
         Command::Post {
             broker,
             number,
             notice,
         } => {
-            put_front(bytes, 2, broker, number);
-            put_numbers(bytes, 6, &notice.numbers[0..ranges]);
-            6 + 4 * ranges
+            let mut bytes = front(Kind::Post, broker, number);
+            put_numbers(&mut bytes, &notice.numbers[..ranges]);
+            bytes
         }
         Command::Carry { from, to } => {
-            bytes[0] = 3;
-            bytes[1] = from as u8;
-            bytes[2] = to as u8;
-            3
+            let mut bytes = Bytes::new();
+            bytes.push(u8::from(Kind::Carry));
+            bytes.push(from as u8);
+            bytes.push(to as u8);
+            bytes
         }
     }
 }
@@ -142,20 +151,15 @@ pub fn write_command(
     if !fits(command, opening) {
         return Err(Unwritten::TooLarge);
     }
-    let mut bytes = [0; 70];
-    let size = encode(&mut bytes, command, opening.ranges);
-    script.extend_from_slice(&bytes[0..size])?;
+    let bytes = encoded(command, opening.ranges);
+    script.extend_from_slice(bytes.as_slice())?;
     Ok(())
 }
 
-pub fn reads_what_was_written_stands() -> u8
+pub fn reads_what_was_written_stands()
     ensures { ReadsWhatWasWritten }
-{
-    0
-}
+{}
 
-pub fn writes_what_was_read_stands() -> u8
+pub fn writes_what_was_read_stands()
     ensures { WritesWhatWasRead }
-{
-    0
-}
+{}

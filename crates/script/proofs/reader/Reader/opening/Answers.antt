@@ -1,10 +1,13 @@
-use Rattle.std.proofs.Common.{◌≡◌, ◌+◌, ◌-◌, get_or, refl, arith}
-use Rattle.std.proofs.lemmas.Bool.Decides.{nat_tests}
+use Rattle.std.proofs.Common.{arith}
+use Rattle.std.proofs.lemmas.List.{drop-drop}
+use Rattle.std.proofs.lemmas.Grind.{common_steps}
 use Rattle.script.proofs.reader.Reader.opening.Goals as goal
 
-pub returns-in-Err : goal.returns-in-Err
-returns-in-Err c =
-    let p = c.in-Err.ensures in
-    let s = c.args.self.now in
-    let e : s.at + 2 + c.saturating_sub-others.result - (s.at + 2) ≡ get_or s.input.now (s.at + 1) 0 - 1 = omega arith in
-    record { value = (grind (arith, nat_tests), refl); script = refl }
+pub returns-clause-value : goal.returns-clause-value
+returns-clause-value c = grind (arith, common_steps, drop-drop 2 c.args.self.now.at c.args.self.now.input.now)
+
+pub returns-in_err-hung-clause-value : goal.returns-in_err-hung-clause-value
+returns-in_err-hung-clause-value c = grind (arith, common_steps)
+
+pub returns-in_err-opening-clause-value : goal.returns-in_err-opening-clause-value
+returns-in_err-opening-clause-value c = grind (arith, common_steps)
