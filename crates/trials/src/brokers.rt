@@ -1,4 +1,6 @@
 // A broker on examples: its subscribers at the edges of their room, who is reached, and what is to be announced.
+use arrayvec::ArrayVec;
+use broker::neighbour::Neighbour;
 use broker::{announcing, forwarding, subscribers};
 use filter::Filter;
 use std::test::Fail;
@@ -21,9 +23,8 @@ fn subscribers_come_and_go(rt: HostRuntime) -> Result<(), Fail> {
 #[test]
 fn a_notice_reaches_those_that_match(rt: HostRuntime) {
     let part = [3, 20, 0, 9, 30, 2, 5, 40, 4, 7];
-    let mut out = [0; 3];
-    assert_eq!(rt; subscribers::deliver(&part, 1, &[6], &mut out), 2);
-    assert_eq!(rt; out, [20, 40, 0]);
+    let whom: ArrayVec<u64, 3> = subscribers::deliver(&part, 1, &[6]);
+    assert_eq!(rt; whom.as_slice(), [20, 40].as_slice());
 }
 
 #[test]
@@ -53,21 +54,35 @@ fn tables_learn_and_change(rt: HostRuntime) {
 #[test]
 fn a_neighbour_is_not_told_its_own(rt: HostRuntime) -> Result<(), Fail> {
     let own = [1, 30, 2, 5];
-    let memory = [1, 0, 9, 1, 4, 7];
+    let neighbours = [
+        Neighbour {
+            broker: 5,
+            learned: &[1, 0, 9],
+        },
+        Neighbour {
+            broker: 8,
+            learned: &[1, 4, 7],
+        },
+    ];
     let mut out = [1; 7];
-    announcing::to_announce(&own, &memory, &[5, 8], &[0, 3], 3, 5, 1, &mut out);
+    announcing::to_announce(&own, &neighbours, 5, 1, &mut out);
     assert_eq!(rt; out, [2, 2, 5, 4, 7, 0, 0]);
     Ok(())
 }
 
 #[test]
 fn a_notice_goes_on_but_not_back(rt: HostRuntime) -> Result<(), Fail> {
-    let memory = [1, 0, 9, 1, 4, 7];
-    let mut out = [0; 2];
-    assert_eq!(rt;
-        forwarding::goes_on(&memory, &[1, 2], &[0, 3], 3, 1, &[5], 1, &mut out),
-        1
-    );
-    assert_eq!(rt; out, [2, 0]);
+    let neighbours = [
+        Neighbour {
+            broker: 1,
+            learned: &[1, 0, 9],
+        },
+        Neighbour {
+            broker: 2,
+            learned: &[1, 4, 7],
+        },
+    ];
+    let to: ArrayVec<u64, 2> = forwarding::goes_on(&neighbours, 1, &[5], 1);
+    assert_eq!(rt; to.as_slice(), [2].as_slice());
     Ok(())
 }

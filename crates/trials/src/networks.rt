@@ -28,10 +28,8 @@ fn tell_filter(text: &mut String, what: &str, filter: Filter) -> Result<(), Fail
 
 // The messages from one broker to another, the oldest first, behind those of the channels before.
 fn tell_channel(text: &mut String, net: &Network<'_>, from: u64, to: u64) -> Result<(), Fail> {
-    for i in 0..8 {
-        let Some(message) = net.message(from, to, i) else {
-            return Ok(());
-        };
+    let messages = (0..8).map_while(|i| net.message(from, to, i));
+    for (i, message) in messages.enumerate() {
         if i > 0 {
             text.push_str(", ")?;
         } else {
@@ -59,10 +57,8 @@ fn under_way(heap: Global, net: &Network<'_>) -> Result<String, Fail> {
 // What broker 0 has learned from 1.
 fn learned(heap: Global, net: &Network<'_>) -> Result<String, Fail> {
     let mut text = String::new(heap);
-    for i in 0..8 {
-        let Some(filter) = net.learned(0, 1, i) else {
-            return Ok(text);
-        };
+    let filters = (0..8).map_while(|i| net.learned(0, 1, i));
+    for (i, filter) in filters.enumerate() {
         if i > 0 {
             text.push_str(", ")?;
         }

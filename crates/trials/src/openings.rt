@@ -10,18 +10,11 @@ fn refused(
     subscribers: usize,
     messages: usize,
 ) -> Option<Refusal> {
-    match Opening::new(
-        ranges,
-        brokers,
-        given,
-        Rooms {
-            subscribers,
-            messages,
-        },
-    ) {
-        Ok(_) => None,
-        Err(refusal) => Some(refusal),
-    }
+    let rooms = Rooms {
+        subscribers,
+        messages,
+    };
+    Opening::new(ranges, brokers, given, rooms).err()
 }
 
 #[test]
@@ -91,9 +84,7 @@ fn brokers_beside_in_the_order_of_telling(rt: HostRuntime) -> Result<(), Fail> {
         return Err(Fail::new("refused"));
     };
     assert!(rt; four.brokers == 4);
-    let mut out = [9; 4];
-    assert_eq!(rt; four.beside(1, &mut out), 3);
-    assert_eq!(rt; out, [0, 2, 3, 9]);
+    assert_eq!(rt; four.beside(1).as_slice(), [0, 2, 3].as_slice());
     assert!(rt; link(1, 0) == 0 && link(0, 1) == 1 && link(3, 1) == 4 && link(1, 3) == 5);
     Ok(())
 }
