@@ -1,13 +1,11 @@
 -- An add or a cut reaches a table: what there has to be room for, and that an add of what is there changes nothing.
-use Rattle.std.proofs.Common.{◌≡◌, ℕ, suc, ◌+◌, ◌*◌, ◌<◌, ◌≤◌, Bool, true, false, List, [], ◌∷◌, length, get_or, take, sym, refl, ap, ◌∙◌, subst, mul-suc, arith}
-use Rattle.filter.specs.Filter.{Filter, same}
+use Rattle.std.proofs.Common.{◌≡◌, ℕ, suc, ◌+◌, ◌*◌, ◌<◌, ◌≤◌, true, false, List, [], ◌∷◌, length, get_or, take, sym, refl, ap, ◌∙◌, subst, mul-suc, arith}
+use Rattle.filter.specs.Filter.{Filter}
 use Rattle.filter.specs.declared.value.Filter.{Filter as Ranges}
-use Rattle.filter.proofs.Laws.{same_tells}
 use Rattle.cover.specs.Maximal.{among, put, without}
 use Rattle.cover.specs.Sorted.{sorted}
 use Rattle.cover.specs.Table.{held, stored, changed}
-use Rattle.cover.proofs.Members.{among_put}
-use Rattle.cover.proofs.Order.{sorted_put, sorted_ext}
+use Rattle.cover.proofs.Order.{put_among}
 use Rattle.cover.proofs.TableLaws.{length_held, stored_same}
 use Rattle.channel.specs.Message.{words}
 use Rattle.channel.specs.declared.message.Message.{Message}
@@ -15,16 +13,6 @@ use Rattle.channel.specs.declared.message.Message.TheVariants.{Add, Cut, Notice 
 use Rattle.filter.specs.declared.value.Notice.{Notice}
 use Rattle.model.specs.Model.{after}
 use Rattle.layout.specs.Mail.{message_in}
-
--- a filter that is there is put there once
-pub put_there : (f : Filter) (fs : List Filter) → sorted fs ≡ true → among f fs ≡ true → put f fs ≡ fs
-put_there f fs s h = sorted_ext (put f fs) fs (sorted_put f fs s) s (λ x. each x (same x f) refl)
-  where
-    each : (x : Filter) (t : Bool) → same x f ≡ t → among x (put f fs) ≡ among x fs
-    each x t e =
-        let p = among_put x f fs in
-        let i : x ≡ f → among x fs ≡ true = λ q. rw q h in
-        grind (arith, same_tells)
 
 -- one that is new makes the table longer by one
 pub length_put_new : (f : Filter) (fs : List Filter) → among f fs ≡ false → length (put f fs) ≡ suc (length fs)
@@ -39,7 +27,7 @@ module _ (m : ℕ) (x : Message) (f : Ranges) (t : List ℕ) (is : x ≡ Add f) 
       sorted (held (2 * m) t) ≡ true → 0 < length t → t ≡ changed (2 * m) (after (message_in m (words m x))) t
   unfolding after
   learn_found e s l =
-      let p = put_there (take (2 * m) f.bounds) (held (2 * m) t) s e in
+      let p = put_among (take (2 * m) f.bounds) (held (2 * m) t) s e in
       sym (ap (λ y. changed (2 * m) (after (message_in m (words m y))) t) is ∙ ap (λ fs. stored (2 * m) fs t) p ∙ stored_same (2 * m) t l)
 
   -- there is room for one filter more, if this one is new

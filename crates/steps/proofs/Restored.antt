@@ -1,21 +1,11 @@
 -- A part that was changed, put back from the words that were saved.
-use Rattle.std.proofs.Common.{◌≡◌, ℕ, ◌+◌, ◌-◌, ◌*◌, ◌<◌, ◌≤◌, List, length, ap, ◌∙◌, mul-le-mul, arith}
+use Rattle.std.proofs.Common.{◌≡◌, ℕ, ◌+◌, ◌-◌, ◌<◌, ◌≤◌, List, length, ap, ◌∙◌}
 use borrow.Rule.Slice.PartMut.{put_mid}
 use Rattle.std.specs.List.{between}
 use Rattle.layout.specs.Plan.{words_of, many_of, size_of, start_of, part, with_part}
-use Rattle.layout.specs.Parts.{plan_of, filters_room}
+use Rattle.layout.specs.Parts.{plan_of}
 use Rattle.layout.specs.declared.opening.Opening.{Opening}
 use Rattle.layout.proofs.Written.{lent, lent_part, restored}
-
--- the largest table has 15,601 words
-pub table_small : (o : Opening) → 1 + 2 * o.ranges * filters_room o ≤ 15601
-table_small o =
-    let v = o.valid.0.1 in
-    let b = o.valid.1.1 in
-    let r = o.valid.2.1 in
-    let p : (o.brokers - 1) * (o.subscribers + 1) ≤ 15 * 65 = mul-le-mul {n₂ = 15} {m₂ = 65} (omega arith) (omega arith) in
-    let q : 2 * o.ranges * ((o.brokers - 1) * (o.subscribers + 1)) ≤ 16 * 975 = mul-le-mul {n₂ = 16} {m₂ = 975} (omega arith) p in
-    omega arith
 
 -- the i-th part of kind k, lent from `at` to `stop`, was written: with the words that were there put back the memory is as it was
 pub put_back :

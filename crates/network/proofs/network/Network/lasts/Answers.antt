@@ -1,12 +1,12 @@
 use Rattle.std.proofs.Common.{◌∙◌, arith}
 use Rattle.broker.proofs.Kept.{length_kept}
-use Rattle.steps.proofs.Restored.{table_small}
+use Rattle.routing.proofs.Compared.{table_most}
 use Rattle.network.proofs.network.Network.lasts.Goals as goal
 
 pub save-table-requires : goal.save-table-requires
 save-table-requires c =
     let l = length_kept _ _ _ _ c.table.ensures in
-    let t = table_small c.args.self.now.opening in
+    let t = table_most c.args.self.now.opening in
     omega arith
 
 pub replay-requires : goal.replay-requires

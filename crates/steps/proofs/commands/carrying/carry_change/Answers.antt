@@ -12,7 +12,8 @@ use Rattle.layout.proofs.Written.{edge_brokers}
 use Rattle.routing.proofs.Sendings.{ends_small}
 use Rattle.steps.proofs.Carrying.{change_is}
 use Rattle.steps.proofs.Lent.{link_learned}
-use Rattle.steps.proofs.Restored.{table_small, put_back}
+use Rattle.routing.proofs.Compared.{table_most}
+use Rattle.steps.proofs.Restored.{put_back}
 use Rattle.steps.proofs.Performing.{refused_on}
 use Rattle.steps.proofs.Tabled.{table, table_whole, table_order, table_room, new_length, table_changed, table_ready, change_refusal, told_formed, change_done}
 use Rattle.steps.proofs.commands.carrying.carry_change.Goals as goal
@@ -29,7 +30,7 @@ save-saved-requires c =
     let o = c.args.opening.now in
     let k = table o c.args.memory.now c.requires.sound c.args.from c.args.to c.requires.beside _ _ c.requires.oldest.1 _ _ _ c.link.ensures c.place-at.ensures.start c.place-at.ensures.stop in
     let l = length_kept (filters_room o) o.ranges _ _ k in
-    let t = table_small o in
+    let t = table_most o in
     omega arith
 
 pub apply-requires : goal.apply-requires
