@@ -1,10 +1,6 @@
 -- A broker tells one beside it: the messages on the channel, one batch in two steps, and then the table of what was announced.
-use Rattle.std.proofs.Common.{◌≡◌, ℕ, ◌+◌, ◌-◌, ◌*◌, ◌<◌, ◌≤◌, Bool, true, false, cond, ◌&&◌, eqb, List, ◌++◌, length, get_or, take, None, sym, refl, ap, ◌∙◌, subst, arith, length-append}
+use Rattle.std.proofs.Common.{◌≡◌, ℕ, ◌+◌, ◌*◌, ◌<◌, ◌≤◌, Bool, true, false, cond, ◌&&◌, eqb, List, ◌++◌, length, get_or, take, None, sym, refl, ap, ◌∙◌, subst, arith, length-append}
 use mathlib.Core.Path.{fun_ext}
-use borrow.Rule.Slice.PartMut.{put_mid}
-use Rattle.std.specs.List.{between}
-use Rattle.std.proofs.lemmas.List.Edits.{length-between}
-use Rattle.std.proofs.lemmas.Slice.{between-put_mid}
 use Rattle.std.proofs.lemmas.List.{append_assoc, take_more, take_all}
 use Rattle.std.proofs.lemmas.Bool.{eq-eqb, and_from}
 use Rattle.filter.specs.Filter.{Filter}
@@ -91,26 +87,6 @@ module _ (o : Opening) (memory : List ℕ) (b : ℕ) (ready : Ready o memory b) 
         wide = announcement_wide o memory b ready n beside;
         fits = announcement_fits o memory b ready n beside;
       })
-
-  -- a table found in the first words of others
-  pub table_lent : (size : ℕ) (words table : List ℕ) → size ≤ length words → length table ≡ length (between 0 size words) →
-      table ≡ laid (2 * o.ranges) (length (between 0 size words)) (announcement (tree o) (network_of o memory) b n) →
-      between 0 size (put_mid 0 (size - 0) words table) ≡ laid (2 * o.ranges) size (announcement (tree o) (network_of o memory) b n)
-  table_lent size words table h l t =
-      let w = length-between words 0 size h in
-      let z : size - 0 ≡ size = omega arith in
-      between-put_mid 0 (size - 0) words table size (omega arith) (l ∙ w) ∙ t ∙ ap (λ k. laid (2 * o.ranges) k (announcement (tree o) (network_of o memory) b n)) (w ∙ z)
-
-  -- .. and the words that then have it at their front
-  pub table_front : (size : ℕ) (words table : List ℕ) → size ≤ length words → length table ≡ length (between 0 size words) →
-      table ≡ laid (2 * o.ranges) (length (between 0 size words)) (announcement (tree o) (network_of o memory) b n) → size ≡ table_words o.ranges o.brokers o.subscribers →
-      take (table_words o.ranges o.brokers o.subscribers) (put_mid 0 (size - 0) words table)
-      ≡ laid (2 * o.ranges) (table_words o.ranges o.brokers o.subscribers) (announcement (tree o) (network_of o memory) b n)
-  table_front size words table h l t e =
-      let z : size - 0 ≡ size = omega arith in
-      let f : take size (put_mid 0 (size - 0) words table) ≡ laid (2 * o.ranges) size (announcement (tree o) (network_of o memory) b n) =
-      ap (λ k. take k (put_mid 0 (size - 0) words table)) (sym z) ∙ table_lent size words table h l t in
-      subst (λ k. take k (put_mid 0 (size - 0) words table) ≡ laid (2 * o.ranges) k (announcement (tree o) (network_of o memory) b n)) e f
 
   -- the memory after both batches and the announcement holds the network in which the broker has told n
   pub told_one : (first second last new gone table : List ℕ) (more less : ℕ) →

@@ -17,7 +17,7 @@ ghost use Rattle.routing.specs.Around.{Ready};
 ghost use Rattle.routing.specs.Tidings.{Told};
 
 use crate::surroundings::surround;
-use broker::announcing::{Changes, compare, to_announce};
+use broker::announcing::{compare, to_announce};
 use channel::batch::{Change, append_all};
 use channel::ring;
 use cover::Rows;
@@ -26,14 +26,13 @@ use layout::memory::{LARGEST_TABLE, table_words};
 use layout::parts::{Kind, Span, place};
 use layout::{Opening, Refusal};
 
-// What a broker has to tell one beside it: what it announces, as a table at the front of its words, and the filters that are new and those that are
-// no more since it told it last.
-#[derive(Drop)]
-struct Tidings {
-    table: [u64; LARGEST_TABLE],
-    adds: [u64; LARGEST_TABLE],
-    cuts: [u64; LARGEST_TABLE],
-    many: Changes,
+// What a broker has to tell one beside it: what it announces, as a table, and the filters that are new and those that are no more since it told it last.
+// They lie in words of the caller's, so that none are copied when they are handed out.
+#[derive(Clone, Copy)]
+struct Tidings<'a> {
+    table: &'a [u64],
+    adds: Rows<'a>,
+    cuts: Rows<'a>,
 }
 
 // What the broker has to announce to one beside it, as a table over whatever stood there.
@@ -54,31 +53,31 @@ fn find(memory: &[u64], opening: &Opening, broker: usize, n: u64, table: &mut [u
     );
 }
 
-impl Tidings {
-    // What the broker has to tell one beside it.
-    fn new(memory: &[u64], opening: &Opening, broker: usize, n: u64) -> Tidings
+impl<'a> Tidings<'a> {
+    // What the broker has to tell one beside it, written over whatever stood in the lent words.
+    fn new(
+        memory: &[u64],
+        opening: &Opening,
+        broker: usize,
+        n: u64,
+        table: &'a mut [u64],
+        adds: &'a mut [u64],
+        cuts: &'a mut [u64],
+    ) -> Tidings<'a>
         requires ready { Ready opening.now memory.now broker }
         requires beside { edge (tree opening.now) broker n ≡ true }
+        requires room { length table.old ≡ table_words opening.now.ranges opening.now.brokers opening.now.subscribers }
+        requires rooms { (length adds.old ≡ 15601) × (length cuts.old ≡ 15601) }
         ensures { Told opening.now (network_of opening.now memory.now) broker n result }
     {
-        let mut table = [0; LARGEST_TABLE];
-        let mut adds = [0; LARGEST_TABLE];
-        let mut cuts = [0; LARGEST_TABLE];
-        let size = table_words(opening);
-        find(memory, opening, broker, n, &mut table[0..size]);
+        find(memory, opening, broker, n, table);
         let Span { at, end } = place(opening, Kind::Announced, link(broker, n as usize));
-        let many = compare(
-            &memory[at..end],
-            &table[0..size],
-            opening.ranges,
-            &mut adds,
-            &mut cuts,
-        );
+        let many = compare(&memory[at..end], table, opening.ranges, adds, cuts);
+        let width = 2 * opening.ranges;
         Tidings {
             table,
-            adds,
-            cuts,
-            many,
+            adds: Rows::new(adds, width, many.adds),
+            cuts: Rows::new(cuts, width, many.cuts),
         }
     }
 }
@@ -89,9 +88,21 @@ fn has_room(memory: &[u64], opening: &Opening, broker: usize, n: u64) -> bool
     requires beside { edge (tree opening.now) broker n ≡ true }
     ensures { result ≡ nat_le (length ((network_of opening.now memory.now).channel broker n) + length (tidings (tree opening.now) (network_of opening.now memory.now) broker n)) opening.now.messages }
 {
-    let told = Tidings::new(memory, opening, broker, n);
+    let size = table_words(opening);
+    let mut table = [0; LARGEST_TABLE];
+    let mut adds = [0; LARGEST_TABLE];
+    let mut cuts = [0; LARGEST_TABLE];
+    let told = Tidings::new(
+        memory,
+        opening,
+        broker,
+        n,
+        &mut table[..size],
+        &mut adds,
+        &mut cuts,
+    );
     let Span { at, end } = place(opening, Kind::Channel, link(broker, n as usize));
-    ring::count(&memory[at..end]) + (told.many.adds + told.many.cuts) <= opening.messages
+    ring::count(&memory[at..end]) + (told.adds.left + told.cuts.left) <= opening.messages
 }
 
 // The refusal if a channel has no room for what is to be told on it: the first such in the order of telling.
@@ -152,21 +163,23 @@ fn tell_one(memory: &mut [u64], opening: &Opening, broker: usize, n: u64)
     requires room { length ((network_of opening.now memory.old).channel broker n) + length (tidings (tree opening.now) (network_of opening.now memory.old) broker n) ≤ opening.now.messages }
     ensures { Encodes opening.now memory.new (tell_one (tree opening.now) broker n (network_of opening.now memory.old)) }
 {
-    let told = Tidings::new(memory, opening, broker, n);
-    let Tidings {
-        table,
-        adds,
-        cuts,
-        many,
-    } = &told;
-    let to = n as usize;
-    let width = 2 * opening.ranges;
-    let adds = Rows::new(adds, width, many.adds);
-    let cuts = Rows::new(cuts, width, many.cuts);
-    send(memory, opening, broker, to, Change::Add, adds);
-    send(memory, opening, broker, to, Change::Cut, cuts);
     let size = table_words(opening);
-    announce(memory, opening, broker, to, &table[0..size]);
+    let mut table = [0; LARGEST_TABLE];
+    let mut adds = [0; LARGEST_TABLE];
+    let mut cuts = [0; LARGEST_TABLE];
+    let told = Tidings::new(
+        memory,
+        opening,
+        broker,
+        n,
+        &mut table[..size],
+        &mut adds,
+        &mut cuts,
+    );
+    let to = n as usize;
+    send(memory, opening, broker, to, Change::Add, told.adds);
+    send(memory, opening, broker, to, Change::Cut, told.cuts);
+    announce(memory, opening, broker, to, told.table);
 }
 
 // Tells all those beside the broker, in their order.
