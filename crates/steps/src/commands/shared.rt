@@ -63,12 +63,15 @@ pub fn hang_together(opening: &Opening, a: usize, b: usize) -> bool
     hangs_on(opening, a, b) || hangs_on(opening, b, a)
 }
 
-// A copy of a part's words; there is room for those of the largest part that a command changes before it knows whether it is refused.
+// A copy of a part's words; there is room for those of the largest part that a command changes before it knows whether it is refused. It is filled
+// where it lies, for a copy that came out of a `Result` would be moved once more, with all the words that there is room for.
 pub fn save(part: &[u64]) -> ArrayVec<u64, LARGEST_TABLE>
     requires { length part.now ≤ 15601 }
     ensures { result.items ≡ part.now }
 {
-    ArrayVec::try_from(part).unwrap()
+    let mut saved = ArrayVec::new();
+    saved.try_extend_from_slice(part).unwrap();
+    saved
 }
 
 // What a broker knows has changed, in one part: it tells those beside it, or, where a channel has no room for that, the part is put back as it was
