@@ -51,11 +51,16 @@ impl Network<'_> {
         self.under_way(b, up) == 0 && self.under_way(up, b) == 0
     }
 
-    // Whether nothing is under way.
+    // Whether nothing is under way. In a loop of its own the place where the channels begin is computed once, and with `all` for each broker anew.
     pub fn is_quiet(&self) -> bool
         ensures { Quietness self.now.opening (network_of self.now.opening self.now.memory.now) result }
     {
-        (1..self.opening.brokers).all(|b| self.is_still(b))
+        for b in 1..self.opening.brokers {
+            if !self.is_still(b) {
+                return false;
+            }
+        }
+        true
     }
 
     // Whether a filter is covered by the table of one broker from another, and still is after each message that is under way from there; the table
