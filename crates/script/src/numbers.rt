@@ -3,7 +3,6 @@ ghost use Rattle.std.specs.Prelude.{◌≡◌, ◌+◌, ◌*◌, ◌≤◌, leng
 ghost use Rattle.filter.specs.Filter.{padded};
 ghost use Rattle.script.specs.Script.{number_at, numbers_at};
 
-use arrayvec::ArrayVec;
 use filter::{Filter, Notice};
 
 // The number in the four bytes from `at` on.
@@ -15,17 +14,15 @@ pub(crate) fn number_at(input: &[u8], at: usize) -> u64
     u64::from(u32::from_le_bytes(four))
 }
 
-// So many numbers that begin at `at`, at most those of a filter.
-fn numbers_at(input: &[u8], at: usize, count: usize) -> ArrayVec<u64, 16>
-    requires { (count ≤ 16) × (at + 4 * count ≤ length input.now) }
-    ensures { result.items ≡ numbers_at count input.now at }
+// Fills `numbers` with as many numbers from `at` on.
+fn read_numbers(input: &[u8], at: usize, numbers: &mut [u64])
+    requires { (at + 4 * length numbers.old ≤ length input.now) × (length numbers.old ≤ 16) }
+    ensures { numbers.new ≡ numbers_at (length numbers.old) input.now at }
 {
-    let mut numbers = ArrayVec::new();
-    let (fours, _) = input[at..at + 4 * count].as_chunks();
-    for four in fours {
-        numbers.push(u64::from(u32::from_le_bytes(*four)));
+    let (fours, _) = input[at..at + 4 * numbers.len()].as_chunks();
+    for (k, four) in fours.iter().enumerate() {
+        numbers[k] = u64::from(u32::from_le_bytes(*four));
     }
-    numbers
 }
 
 // The filter of so many ranges whose numbers begin at `at`.
@@ -33,7 +30,9 @@ pub(crate) fn filter_at(input: &[u8], at: usize, ranges: usize) -> Filter
     requires { (ranges ≤ 8) × (at + 8 * ranges ≤ length input.now) }
     ensures { result.bounds ≡ padded 16 (numbers_at (2 * ranges) input.now at) }
 {
-    Filter::new(numbers_at(input, at, 2 * ranges).as_slice())
+    let mut bounds = [0; 16];
+    read_numbers(input, at, &mut bounds[..2 * ranges]);
+    Filter { bounds }
 }
 
 // The notice of so many numbers that begin at `at`.
@@ -41,5 +40,7 @@ pub(crate) fn notice_at(input: &[u8], at: usize, ranges: usize) -> Notice
     requires { (ranges ≤ 8) × (at + 4 * ranges ≤ length input.now) }
     ensures { result.numbers ≡ padded 8 (numbers_at ranges input.now at) }
 {
-    Notice::new(numbers_at(input, at, ranges).as_slice())
+    let mut numbers = [0; 8];
+    read_numbers(input, at, &mut numbers[..ranges]);
+    Notice { numbers }
 }

@@ -1,5 +1,5 @@
 // Commands written as the bytes of a script.
-ghost use Rattle.std.specs.Prelude.{◌≡◌, ◌+◌, ◌*◌, ◌<◌, ◌≤◌, true, false, ◌∷◌, ◌++◌, length, nat_lt, is_ok, if◌then◌else◌, Err, ◌≢◌};
+ghost use Rattle.std.specs.Prelude.{◌≡◌, ◌+◌, ◌*◌, ◌<◌, ◌≤◌, true, false, [], ◌∷◌, ◌++◌, length, nat_lt, is_ok, if◌then◌else◌, Err, ◌≢◌};
 ghost use Rattle.std.specs.List.{flat_map};
 ghost use Rattle.script.specs.declared.writer.Unwritten.TheVariants.{TooLarge, NoMemory};
 ghost use Rattle.arrayvec.specs.ArrayVec.{array_vec_len};
@@ -30,16 +30,14 @@ impl From<AllocError> for Unwritten {
 // The bytes of one command; a join of eight ranges has as many as there is room for.
 type Bytes = ArrayVec<u8, 70>;
 
-// A command's first six bytes.
-fn front(kind: Kind, broker: u64, number: u64) -> Bytes
-    requires { (broker < 256) × (small number ≡ true) }
-    ensures { result.items ≡ first_byte kind ∷ broker ∷ four_bytes number }
+// Writes a command's first six bytes.
+fn put_front(bytes: &mut Bytes, kind: Kind, broker: u64, number: u64)
+    requires { (bytes.old.items ≡ []) × (broker < 256) × (small number ≡ true) }
+    ensures { bytes.new.items ≡ first_byte kind ∷ broker ∷ four_bytes number }
 {
-    let mut bytes = Bytes::new();
     bytes.push(u8::from(kind));
     bytes.push(broker as u8);
-    put_number(&mut bytes, number);
-    bytes
+    put_number(bytes, number);
 }
 
 // Appends the four bytes of a number.
@@ -102,10 +100,10 @@ pub fn fits(command: Command, opening: &Opening) -> bool
     }
 }
 
-// The bytes of a command that fits.
-fn encoded(command: Command, ranges: usize) -> Bytes
-    requires { (ranges ≤ 8) × (fits ranges command ≡ true) }
-    ensures { result.items ≡ written ranges command }
+// Writes the bytes of a command that fits.
+fn encode(bytes: &mut Bytes, command: Command, ranges: usize)
+    requires { (bytes.old.items ≡ []) × (ranges ≤ 8) × (fits ranges command ≡ true) }
+    ensures { bytes.new.items ≡ written ranges command }
 {
     match command {
         Command::Join {
@@ -113,26 +111,22 @@ fn encoded(command: Command, ranges: usize) -> Bytes
             number,
             filter,
         } => {
-            let mut bytes = front(Kind::Join, broker, number);
-            put_numbers(&mut bytes, &filter.bounds[..2 * ranges]);
-            bytes
+            put_front(bytes, Kind::Join, broker, number);
+            put_numbers(bytes, &filter.bounds[..2 * ranges]);
         }
-        Command::Leave { broker, number } => front(Kind::Leave, broker, number),
+        Command::Leave { broker, number } => put_front(bytes, Kind::Leave, broker, number),
         Command::Post {
             broker,
             number,
             notice,
         } => {
-            let mut bytes = front(Kind::Post, broker, number);
-            put_numbers(&mut bytes, &notice.numbers[..ranges]);
-            bytes
+            put_front(bytes, Kind::Post, broker, number);
+            put_numbers(bytes, &notice.numbers[..ranges]);
         }
         Command::Carry { from, to } => {
-            let mut bytes = Bytes::new();
             bytes.push(u8::from(Kind::Carry));
             bytes.push(from as u8);
             bytes.push(to as u8);
-            bytes
         }
     }
 }
@@ -151,7 +145,8 @@ pub fn write_command(
     if !fits(command, opening) {
         return Err(Unwritten::TooLarge);
     }
-    let bytes = encoded(command, opening.ranges);
+    let mut bytes = Bytes::new();
+    encode(&mut bytes, command, opening.ranges);
     script.extend_from_slice(bytes.as_slice())?;
     Ok(())
 }
