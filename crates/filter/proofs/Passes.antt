@@ -1,8 +1,20 @@
--- What a pass over two rows leans on: each test of them by their first numbers and what is left, and where one is at its end; and one word more written.
-use Rattle.std.proofs.Common.{◌≡◌, ◌-◌, ◌<◌, ◌≤◌, ◌&&◌, leb, ◌⊎◌, [], ◌∷◌, length, get_or, take, drop, refl, ◌==◌, arith}
+-- What a pass over two rows leans on: each test of them by their lengths, by their first numbers and what is left, and where one is at its end.
+use Rattle.std.proofs.Common.{◌≡◌, ◌-◌, ◌*◌, ◌%◌, ◌<◌, ◌≤◌, true, ◌&&◌, leb, ◌⊎◌, [], ◌∷◌, length, get_or, take, drop, refl, ◌==◌, arith}
 use Rattle.std.proofs.lemmas.List.{take_rest}
 use Rattle.std.proofs.lemmas.Bool.Decides.{nat_tests}
 use Rattle.filter.specs.Filter.{Filter, Notice, matches, covers}
+
+-- filters of which one covers the other have one length, an even one
+pub covers_shape : (f g : Filter) → covers f g ≡ true → (length f ≡ length g) × (length f % 2 ≡ 0)
+unfolding covers
+covers_shape [] [] h = (refl, refl)
+covers_shape [] (c ∷ g) h = grind arith
+covers_shape (a ∷ []) g h = grind arith
+covers_shape (a ∷ b ∷ f) [] h = grind arith
+covers_shape (a ∷ b ∷ f) (c ∷ []) h = grind arith
+covers_shape (a ∷ b ∷ f) (c ∷ d ∷ g) h =
+    let r = covers_shape f g in
+    grind (arith, nat_tests)
 
 pub covers_pair : (f g : Filter) → 2 ≤ length f → 2 ≤ length g →
     covers f g
@@ -22,6 +34,16 @@ covers_end (a ∷ []) g h = grind (arith, nat_tests)
 covers_end (a ∷ b ∷ f) [] h = grind (arith, nat_tests)
 covers_end (a ∷ b ∷ f) (c ∷ []) h = grind (arith, nat_tests)
 covers_end (a ∷ b ∷ f) (c ∷ d ∷ g) h = grind arith
+
+-- a filter that matches has an even length, and a number for each range
+pub matches_shape : (f : Filter) (e : Notice) → matches f e ≡ true → (length f % 2 ≡ 0) × (length f ≤ 2 * length e)
+unfolding matches
+matches_shape [] e h = (refl, omega arith)
+matches_shape (a ∷ []) e h = grind arith
+matches_shape (a ∷ b ∷ f) [] h = grind arith
+matches_shape (a ∷ b ∷ f) (x ∷ e) h =
+    let r = matches_shape f e in
+    grind (arith, nat_tests)
 
 pub matches_pair : (f : Filter) (e : Notice) → 2 ≤ length f → 1 ≤ length e →
     matches f e

@@ -7,6 +7,9 @@ ghost use Rattle.filter.specs.Filter.{matches, covers, same, before};
 pub fn covers(outer: &[u64], inner: &[u64]) -> bool
     ensures { result ≡ covers outer.now inner.now }
 {
+    if outer.len() != inner.len() || outer.len() % 2 != 0 {
+        return false;
+    }
     let (mut wide, mut narrow) = (outer, inner);
     while let ([low, high, wider @ ..], [least, greatest, others @ ..]) = (wide, narrow) {
         if low > least || high < greatest {
@@ -15,7 +18,7 @@ pub fn covers(outer: &[u64], inner: &[u64]) -> bool
         wide = wider;
         narrow = others;
     }
-    wide.is_empty() && narrow.is_empty()
+    true
 }
 
 // Whether each number of the notice lies in the filter's range at its place. Numbers past the last range do not matter; a range without a number
@@ -23,6 +26,9 @@ pub fn covers(outer: &[u64], inner: &[u64]) -> bool
 pub fn matches(filter: &[u64], notice: &[u64]) -> bool
     ensures { result ≡ matches filter.now notice.now }
 {
+    if filter.len() % 2 != 0 || notice.len() < filter.len() / 2 {
+        return false;
+    }
     let (mut ranges, mut numbers) = (filter, notice);
     while let ([low, high, more @ ..], [number, others @ ..]) = (ranges, numbers) {
         if number < low || number > high {
@@ -31,7 +37,7 @@ pub fn matches(filter: &[u64], notice: &[u64]) -> bool
         ranges = more;
         numbers = others;
     }
-    ranges.is_empty()
+    true
 }
 
 // Whether the two rows have the same numbers.
