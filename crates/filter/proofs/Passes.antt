@@ -1,8 +1,8 @@
 -- What a pass over two rows leans on: each test of them by their lengths, by their first numbers and what is left, and where one is at its end.
-use Rattle.std.proofs.Common.{◌≡◌, ◌-◌, ◌*◌, ◌%◌, ◌<◌, ◌≤◌, true, ◌&&◌, leb, ◌⊎◌, [], ◌∷◌, length, get_or, take, drop, refl, ◌==◌, arith}
+use Rattle.std.proofs.Common.{◌≡◌, ◌-◌, ◌*◌, ◌%◌, ◌<◌, ◌≤◌, true, cond, ◌&&◌, leb, ltb, eqb, ◌⊎◌, [], ◌∷◌, ◌++◌, length, get_or, take, drop, refl, ◌==◌, arith}
 use Rattle.std.proofs.lemmas.List.{take_rest}
 use Rattle.std.proofs.lemmas.Bool.Decides.{nat_tests}
-use Rattle.filter.specs.Filter.{Filter, Notice, matches, covers}
+use Rattle.filter.specs.Filter.{Filter, Notice, matches, covers, before}
 
 -- filters of which one covers the other have one length, an even one
 pub covers_shape : (f g : Filter) → covers f g ≡ true → (length f ≡ length g) × (length f % 2 ≡ 0)
@@ -60,3 +60,22 @@ matches_end [] e h = refl
 matches_end (a ∷ []) e h = grind (arith, nat_tests)
 matches_end (a ∷ b ∷ f) [] h = grind (arith, nat_tests)
 matches_end (a ∷ b ∷ f) (x ∷ e) h = grind arith
+
+-- the fronts of two rows, and what lies behind them
+pub before_pair : (f g u v : Filter) → 1 ≤ length f → 1 ≤ length g →
+    before (f ++ u) (g ++ v)
+    ≡ cond (ltb (get_or f 0 0) (get_or g 0 0)) true (eqb (get_or f 0 0) (get_or g 0 0) && before (take (length f - 1) (drop 1 f) ++ u) (take (length g - 1) (drop 1 g) ++ v))
+unfolding before
+before_pair [] g u v p q = grind arith
+before_pair (x ∷ f) [] u v p q = grind arith
+before_pair (x ∷ f) (y ∷ g) u v p q = rw (take_rest (x ∷ f) 1, take_rest (y ∷ g) 1)
+
+-- where the fronts are at their end, and nothing lies behind one of them, the shorter row comes first
+pub before_end : (f g u v : Filter) → length f < 1 → length g < 1 → (length u < 1) ⊎ (length v < 1) → before (f ++ u) (g ++ v) ≡ ltb (length u) (length v)
+unfolding before
+before_end [] [] [] [] p q h = refl
+before_end [] [] [] (y ∷ v) p q h = grind (arith, nat_tests)
+before_end [] [] (x ∷ u) [] p q h = grind (arith, nat_tests)
+before_end [] [] (x ∷ u) (y ∷ v) p q h = grind arith
+before_end [] (y ∷ g) u v p q h = grind arith
+before_end (x ∷ f) g u v p q h = grind arith

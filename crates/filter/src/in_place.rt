@@ -51,5 +51,15 @@ pub fn same(a: &[u64], b: &[u64]) -> bool
 pub fn before(a: &[u64], b: &[u64]) -> bool
     ensures { result ≡ before a.now b.now }
 {
-    a < b
+    // cut to one length first: the pass is then over both by one count
+    let both = a.len().min(b.len());
+    let (mut left, mut right) = (&a[..both], &b[..both]);
+    while let ([x, more @ ..], [y, others @ ..]) = (left, right) {
+        if x != y {
+            return x < y;
+        }
+        left = more;
+        right = others;
+    }
+    a.len() < b.len()
 }
