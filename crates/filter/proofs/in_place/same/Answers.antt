@@ -1,6 +1,9 @@
-use Rattle.std.proofs.Common.{sym, ◌∙◌}
+use Rattle.std.proofs.Common.{rules}
+use Rattle.std.proofs.lemmas.List.{places}
 use Rattle.filter.proofs.Laws.{same_is_equality}
 use Rattle.filter.proofs.in_place.same.Goals as goal
 
 pub returns : goal.returns
-returns c = c.eq.ensures ∙ sym (same_is_equality c.args.a.now c.args.b.now)
+returns c =
+    let p = same_is_equality c.args.a.now c.args.b.now in
+    search (rules, places)
