@@ -1,3 +1,4 @@
+pub mod Fronts
 pub mod Slots
 pub mod Part
 pub mod Kept

@@ -5,7 +5,6 @@ ghost use Rattle.filter.specs.Filter.{padded};
 ghost use Rattle.cover.specs.Table.{inserted_all};
 ghost use Rattle.broker.specs.Subscribers.{Subscriber, has_number, newcomer, subscribers, with_subscribers, Holds, Shape, Whole, filters_of, known, filter_of, ahead, dropped, reached};
 
-use arrayvec::ArrayVec;
 use cover::{Rows, moving, table};
 use filter::{Filter, in_place};
 
@@ -98,19 +97,21 @@ pub fn leave(part: &mut [u64], m: usize, number: u64) -> Result<(), Absent>
     Ok(())
 }
 
-// The numbers of the subscribers whose filter matches the notice, in their order.
-pub fn deliver<const N: usize>(part: &[u64], m: usize, notice: &[u64]) -> ArrayVec<u64, N>
+// Writes the numbers of the subscribers whose filter matches the notice, in their order, and says how many they are.
+pub fn deliver(part: &[u64], m: usize, notice: &[u64], out: &mut [u64]) -> usize
     requires whole { (m ≤ 8) × Whole m part.now }
-    requires room { slice_index part.now 0 ≤ N }
-    ensures { result.items ≡ reached notice.now (subscribers m part.now) }
+    requires room { slice_index part.now 0 ≤ length out.old }
+    ensures counted { result ≡ length (reached notice.now (subscribers m part.now)) }
+    ensures words { out.new ≡ reached notice.now (subscribers m part.now) ++ drop result out.old }
 {
-    let mut whom = ArrayVec::new();
+    let mut to = 0;
     for slot in Rows::counted(part, 1 + 2 * m) {
         if in_place::matches(&slot[1..], notice) {
-            whom.push(slot[0]);
+            out[to] = slot[0];
+            to += 1;
         }
     }
-    whom
+    to
 }
 
 // Inserts the subscribers' filters into a table of maximal filters.

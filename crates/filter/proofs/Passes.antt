@@ -1,6 +1,7 @@
--- What a pass over two rows leans on: each test of them by their lengths, by their first numbers and what is left, and where one is at its end.
-use Rattle.std.proofs.Common.{◌≡◌, ◌-◌, ◌*◌, ◌%◌, ◌<◌, ◌≤◌, true, cond, ◌&&◌, leb, ltb, eqb, ◌⊎◌, [], ◌∷◌, ◌++◌, length, get_or, take, drop, refl, ◌==◌, arith}
-use Rattle.std.proofs.lemmas.List.{take_rest}
+-- What a pass over two rows leans on: each test of them by their lengths, by their first numbers and what is left, and where one is at its end; and one
+-- word more written.
+use Rattle.std.proofs.Common.{◌≡◌, ℕ, ◌+◌, ◌-◌, ◌*◌, ◌%◌, ◌<◌, ◌≤◌, true, cond, ◌&&◌, leb, ltb, eqb, ◌⊎◌, List, [], ◌∷◌, ◌++◌, length, get_or, take, drop, set, sym, refl, ◌==◌, arith}
+use Rattle.std.proofs.lemmas.List.{append_assoc, set_at, drop_more, take_rest}
 use Rattle.std.proofs.lemmas.Bool.Decides.{nat_tests}
 use Rattle.filter.specs.Filter.{Filter, Notice, matches, covers, before}
 
@@ -79,3 +80,11 @@ before_end [] [] (x ∷ u) [] p q h = grind (arith, nat_tests)
 before_end [] [] (x ∷ u) (y ∷ v) p q h = grind arith
 before_end [] (y ∷ g) u v p q h = grind arith
 before_end (x ∷ f) g u v p q h = grind arith
+
+-- a pass that writes words one behind the other over the front of a row: one word more
+pub push_over : (xs was : List ℕ) (k x : ℕ) → k ≡ length xs → k < length was → set (xs ++ drop k was) k x ≡ (xs ++ x ∷ []) ++ drop (k + 1) was
+push_over xs was k x e h =
+    let d = drop_more was k 0 h in
+    let s = set_at xs (get_or was k 0) (drop (k + 1) was) x k (sym e) in
+    let a = append_assoc xs (x ∷ []) (drop (k + 1) was) in
+    cc

@@ -2,7 +2,7 @@
 use Rattle.std.proofs.Common.{◌≡◌, ℕ, suc, ◌+◌, ◌-◌, ◌*◌, ◌<◌, ◌≤◌, Bool, true, false, cond, not, ◌&&◌, eqb, leb, List, [], ◌∷◌, ◌++◌, map, length, get_or, take, drop, replicate, Some, None, Ok, Err, Option, Result, sym, refl, ap, ◌∙◌, subst, arith}
 use borrow.Rule.Slice.PartMut.{put_mid}
 use Rattle.std.specs.List.{between, AllByRecursion}
-use Rattle.std.proofs.lemmas.List.{length-append, length-map, length-replicate, get_or-take, get_or-drop, take_more}
+use Rattle.std.proofs.lemmas.List.{length-append, length-map, length-replicate, length-take-le, get_or-take, get_or-drop, take_at, take_more}
 use Rattle.std.proofs.lemmas.Bool.{and_parts, le-leb, leb-true, lt-leb}
 use Rattle.filter.specs.Filter.{Notice, matches}
 use Rattle.cover.specs.Maximal.{any_matches}
@@ -176,6 +176,15 @@ lent_front many ns =
     let z : many - 0 ≡ many = omega arith in
     rw z refl
 
+-- what was written to the front of a row, and that it is no longer than the row
+pub front_taken : (ns rest out : List ℕ) (many : ℕ) → out ≡ ns ++ rest → many ≡ length ns → take many out ≡ ns
+front_taken ns rest out many e n = ap (take many) e ∙ take_at ns rest many (sym n)
+
+pub front_long : (ns rest out : List ℕ) (many : ℕ) → out ≡ ns ++ rest → many ≡ length ns → many ≤ length out
+front_long ns rest out many e n =
+    let l = ap length e ∙ length-append ns rest in
+    omega arith
+
 -- no more are reached than there are
 pub reached_few : (e : Notice) (rs : List Subscriber) → length (reached e rs) ≤ length rs
 unfolding reached
@@ -197,21 +206,21 @@ module _ (o : Opening) (s : Network) (b from : ℕ) (e : Notice) (reach : Reach)
   within : b ≤ length (tree o)
   within = broker_within o b there
 
-  pub goes_apart : distinct reach.to.items ≡ true
+  pub goes_apart : distinct (take reach.on reach.to) ≡ true
   goes_apart =
       ap distinct h.on
       ∙ wanting_distinct (λ j. s.learned b (get_or (neighbours (tree o) b) j 0)) (neighbours (tree o) b) from e (neighbours_distinct (tree o) b (tree_hung o) within)
 
-  goes_to : (n : ℕ) → has reach.to.items n ≡ true → (has (neighbours (tree o) b) n ≡ true) × ((not (eqb n from) && any_matches (s.learned b n) e) ≡ true)
+  goes_to : (n : ℕ) → has (take reach.on reach.to) n ≡ true → (has (neighbours (tree o) b) n ≡ true) × ((not (eqb n from) && any_matches (s.learned b n) e) ≡ true)
   goes_to n t =
       and_parts (has (neighbours (tree o) b) n) (not (eqb n from) && any_matches (s.learned b n) e)
       (sym (wanting_has (λ j. s.learned b (get_or (neighbours (tree o) b) j 0)) (neighbours (tree o) b) from e (s.learned b) (λ j l. refl) n)
       ∙ (ap (λ ws. has ws n) (sym h.on) ∙ t))
 
-  pub goes_beside : (n : ℕ) → has reach.to.items n ≡ true → edge (tree o) b n ≡ true
+  pub goes_beside : (n : ℕ) → has (take reach.on reach.to) n ≡ true → edge (tree o) b n ≡ true
   goes_beside n t = sym (neighbours_edge (tree o) b n within) ∙ (goes_to n t).0
 
-  pub goes_room : (k : ℕ) → no_room_to_pass o s b from k e ≡ None → (n : ℕ) → has reach.to.items n ≡ true → length (s.channel b n) < o.messages
+  pub goes_room : (k : ℕ) → no_room_to_pass o s b from k e ≡ None → (n : ℕ) → has (take reach.on reach.to) n ≡ true → length (s.channel b n) < o.messages
   goes_room k r n t =
       let (x, y) = goes_to n t in
       let f = full_none o.messages (s.channel b) (passed_on from k e (s.learned b)) (neighbours (tree o) b) n r x in
@@ -220,26 +229,26 @@ module _ (o : Opening) (s : Network) (b from : ℕ) (e : Notice) (reach : Reach)
 
   -- of the channels that it goes on to the first full one is the one that the rules name
   pass_all : (k : ℕ) → ((n : ℕ) → edge (tree o) b n ≡ true → length (s.channel b n) ≤ o.messages) →
-      full o.messages (s.channel b) (λ n. notice k e ∷ []) reach.to.items ≡ no_room_to_pass o s b from k e
+      full o.messages (s.channel b) (λ n. notice k e ∷ []) (take reach.on reach.to) ≡ no_room_to_pass o s b from k e
   pass_all k fits =
       ap (full o.messages (s.channel b) (λ n. notice k e ∷ [])) h.on
       ∙ full_wanted o.messages (s.channel b) (s.learned b) (neighbours (tree o) b) from k e (λ j l. fits (get_or (neighbours (tree o) b) j 0) (neighbour_edge o b j there l))
 
   -- as many deliveries as there are subscribers that it reaches
-  pub deliveries_many : (k : ℕ) → length (delivered k e (s.subscribers b)) ≡ length reach.whom.items
+  pub deliveries_many : (k : ℕ) → length (delivered k e (s.subscribers b)) ≡ reach.many
   deliveries_many k =
       ap length (delivered_reached k e (s.subscribers b))
       ∙ (length-map (reached e (s.subscribers b)) (λ n. record { what = k; whom = n })
-      ∙ ap length (sym h.whom))
+      ∙ (ap length (sym h.whom) ∙ length-take-le reach.many reach.whom h.few.1))
 
-  pub deliveries_room : (k : ℕ) → no_room_to_deliver s b k e ≡ None → length s.deliveries + length reach.whom.items ≤ 65536
+  pub deliveries_room : (k : ℕ) → no_room_to_deliver s b k e ≡ None → length s.deliveries + reach.many ≤ 65536
   deliveries_room k r =
       let m = deliveries_many k in
       let t = leb-true (length s.deliveries + length (delivered k e (s.subscribers b))) 65536 (when_none (leb (length s.deliveries + length (delivered k e (s.subscribers b))) 65536) _ r) in
       omega arith
 
   -- what the rules answer: on the channels, and among the deliveries
-  module _ {A : Type 0} (a : A) (k : ℕ) (fits : (n : ℕ) → edge (tree o) b n ≡ true → length (s.channel b n) ≤ o.messages) (to : List ℕ) (is : to ≡ reach.to.items) where
+  module _ {A : Type 0} (a : A) (k : ℕ) (fits : (n : ℕ) → edge (tree o) b n ≡ true → length (s.channel b n) ≤ o.messages) (to : List ℕ) (is : to ≡ take reach.on reach.to) where
     passes : (r : Result A Refusal) → r ≡ ok_unless (full o.messages (s.channel b) (λ n. notice k e ∷ []) to) a → r ≡ ok_unless (no_room_to_pass o s b from k e) a
     passes r q = q ∙ ap (λ x. ok_unless x a) (ap (full o.messages (s.channel b) (λ n. notice k e ∷ [])) is ∙ pass_all k fits)
 
@@ -248,23 +257,23 @@ module _ (o : Opening) (s : Network) (b from : ℕ) (e : Notice) (reach : Reach)
     refused_pass r q = first_of a _ _ r (passes (Err r) q)
 
     module _ (q : Ok a ≡ ok_unless (full o.messages (s.channel b) (λ n. notice k e ∷ []) to) a) where
-      delivers : (t : Bool) → leb (length s.deliveries + length reach.whom.items) 65536 ≡ t →
+      delivers : (t : Bool) → leb (length s.deliveries + reach.many) 65536 ≡ t →
           ok_unless (when (not t) (TooManyDeliveries 65536)) a ≡ ok_unless (first (no_room_to_pass o s b from k e ∷ (no_room_to_deliver s b k e ∷ []))) a
       delivers t h =
           ap (λ u. ok_unless (when (not u) (TooManyDeliveries 65536)) a) (sym h ∙ ap (λ n. leb (length s.deliveries + n) 65536) (sym (deliveries_many k)))
           ∙ second_of a _ (no_room_to_deliver s b k e) (passes (Ok a) q)
 
-      pub refused_deliver : 65536 < length s.deliveries + length reach.whom.items →
+      pub refused_deliver : 65536 < length s.deliveries + reach.many →
           Err (TooManyDeliveries 65536) ≡ ok_unless (first (no_room_to_pass o s b from k e ∷ (no_room_to_deliver s b k e ∷ []))) a
-      refused_deliver l = delivers false (lt-leb (length s.deliveries + length reach.whom.items) 65536 l)
+      refused_deliver l = delivers false (lt-leb (length s.deliveries + reach.many) 65536 l)
 
-      pub refused_none : length s.deliveries + length reach.whom.items ≤ 65536 →
+      pub refused_none : length s.deliveries + reach.many ≤ 65536 →
           Ok a ≡ ok_unless (first (no_room_to_pass o s b from k e ∷ (no_room_to_deliver s b k e ∷ []))) a
-      refused_none l = delivers true (le-leb (length s.deliveries + length reach.whom.items) 65536 l)
+      refused_none l = delivers true (le-leb (length s.deliveries + reach.many) 65536 l)
 
   -- sent on to all that wish for it, written down and listed as arrived, the notice has arrived
   arrived_all : (k : ℕ) →
-      with_arrived (with_deliveries (sent_to b k e reach.to.items s) (s.deliveries ++ all_to k reach.whom.items)) b (k ∷ s.arrived b)
+      with_arrived (with_deliveries (sent_to b k e (take reach.on reach.to) s) (s.deliveries ++ all_to k (take reach.many reach.whom))) b (k ∷ s.arrived b)
       ≡ arrive (tree o) b from k e s
   unfolding arrive
   arrived_all k =
@@ -282,7 +291,7 @@ module _ (o : Opening) (s : Network) (b from : ℕ) (e : Notice) (reach : Reach)
         deliveries = s.deliveries ++ d i;
       }
 
-  pub arrived_now : (k : ℕ) (to whom middle last : List ℕ) → to ≡ reach.to.items → whom ≡ reach.whom.items →
+  pub arrived_now : (k : ℕ) (to whom middle last : List ℕ) → to ≡ take reach.on reach.to → whom ≡ take reach.many reach.whom →
       Encodes o middle (sent_to b k e to s) →
       Encodes o last (with_arrived (with_deliveries (network_of o middle) ((network_of o middle).deliveries ++ all_to k whom)) b (k ∷ (network_of o middle).arrived b)) →
       Encodes o last (arrive (tree o) b from k e s)

@@ -28,10 +28,12 @@ pub fn find(memory: &[u64], opening: &Opening, broker: usize, from: u64, notice:
     ensures { Reaches opening.now (network_of opening.now memory.now) broker from notice.now result }
 {
     let around = surround(memory, opening, broker);
-    let to = goes_on(around.as_slice(), from, notice, opening.ranges);
+    let mut to = [0; 16];
+    let on = goes_on(around.as_slice(), from, notice, opening.ranges, &mut to);
     let Span { at, end } = place(opening, Kind::Subscribers, broker);
-    let whom = subscribers::deliver(&memory[at..end], opening.ranges, notice);
-    Reach { to, whom }
+    let mut whom = [0; 64];
+    let many = subscribers::deliver(&memory[at..end], opening.ranges, notice, &mut whom);
+    Reach { to, on, whom, many }
 }
 
 // The refusal if the channel to one of these beside the broker is full: the first such of the list.
@@ -50,6 +52,7 @@ fn lacks_room(memory: &[u64], opening: &Opening, broker: usize, to: &[u64]) -> R
 }
 
 // The refusal if there is no room for what the notice brings: on the channels, or among the deliveries.
+#[tactic(auto, using(crate::proofs::Arrivals::goes_beside))]
 pub fn refused(
     memory: &[u64],
     opening: &Opening,
@@ -64,9 +67,9 @@ pub fn refused(
     requires reaches { Reaches opening.now (network_of opening.now memory.now) broker from notice.now reach.now }
     ensures { result ≡ ok_unless (first (no_room_to_pass opening.now (network_of opening.now memory.now) broker from number notice.now ∷ (no_room_to_deliver (network_of opening.now memory.now) broker number notice.now ∷ []))) tt }
 {
-    lacks_room(memory, opening, broker, reach.to.as_slice())?;
+    lacks_room(memory, opening, broker, &reach.to[..reach.on])?;
     let Span { at, .. } = place(opening, Kind::Deliveries, 0);
-    if memory[at] as usize + reach.whom.len() > MOST_DELIVERIES {
+    if memory[at] as usize + reach.many > MOST_DELIVERIES {
         return Err(Refusal::TooManyDeliveries(MOST_DELIVERIES as u64));
     }
     Ok(())
@@ -139,6 +142,13 @@ pub fn arrive(
     requires new { length ((network_of opening.now memory.old).arrived broker) < 4096 }
     ensures { Encodes opening.now memory.new (arrive (tree opening.now) broker from number (take opening.now.ranges notice.numbers) (network_of opening.now memory.old)) }
 {
-    send_all(memory, opening, broker, reach.to.as_slice(), number, notice);
-    write_down(memory, opening, broker, number, reach.whom.as_slice());
+    send_all(
+        memory,
+        opening,
+        broker,
+        &reach.to[..reach.on],
+        number,
+        notice,
+    );
+    write_down(memory, opening, broker, number, &reach.whom[..reach.many]);
 }

@@ -1,8 +1,8 @@
 // Where a notice goes from a broker: to which of those beside it, and to which of its subscribers.
-use arrayvec::ArrayVec;
-
-#[derive(Clone, Drop, PartialEq, Eq, Debug)]
+#[derive(Clone, Copy, PartialEq, Eq, Debug)]
 pub struct Reach {
-    pub to: ArrayVec<u64, 16>,
-    pub whom: ArrayVec<u64, 64>,
+    pub to: [u64; 16],
+    pub on: usize,
+    pub whom: [u64; 64],
+    pub many: usize,
 }

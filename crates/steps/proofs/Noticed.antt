@@ -54,6 +54,7 @@ module _ (o : Opening) (s u : Network) (b m k : ℕ) (e : Notice) (h : Alike s u
   pub reaches_alike : (r : Reach) → Reaches o s b m e r → Reaches o u b m e r
   reaches_alike r g =
       record {
+        few = g.few;
         on =
             g.on
             ∙ ap (λ t. wanting (λ j. t (get_or (neighbours (tree o) b) j 0)) (neighbours (tree o) b) m e (length (neighbours (tree o) b))) h.learned;
@@ -124,17 +125,17 @@ module _ (o : Opening) (memory : List ℕ) (sound : Sound o memory) where
 
   -- its number is noted in one memory, and in the last the notice has arrived
   pub posted_performed : (b k : ℕ) (v : Value) (reach : Reach) → b < o.brokers → Reaches o (network_of o memory) b b (take o.ranges v.numbers) reach →
-      has (network_of o memory).posted k ≡ false → refusal_of o (network_of o memory) (Post b k v) ≡ None → (noted last : List ℕ) → (many : ℕ) → many ≡ length reach.whom.items →
+      has (network_of o memory).posted k ≡ false → refusal_of o (network_of o memory) (Post b k v) ≡ None → (noted last : List ℕ) →
       Encodes o noted (with_numbers (network_of o memory) (k ∷ (network_of o memory).posted)) →
-      Encodes o last (arrive (tree o) b b k (take o.ranges v.numbers) (network_of o noted)) → Performed o memory (Post b k v) (Ok many) last
-  posted_performed b k v reach there h new none noted last many is f g =
+      Encodes o last (arrive (tree o) b b k (take o.ranges v.numbers) (network_of o noted)) → Performed o memory (Post b k v) (Ok reach.many) last
+  posted_performed b k v reach there h new none noted last f g =
       let s = network_of o memory in
       let e = take o.ranges v.numbers in
       let p = step_posted o s b k e there new in
       let d = ap (λ u. length u.deliveries) p in
       let n = arrive_many (tree o) b b k e (with_posted s k) in
       let m = deliveries_many o s b b e reach there h k in
-      done_performed o memory (Post b k v) many sound none last (subst (Encodes o last) (ap (arrive (tree o) b b k e) (reads o noted _ f) ∙ sym p) g) (omega arith)
+      done_performed o memory (Post b k v) reach.many sound none last (subst (Encodes o last) (ap (arrive (tree o) b b k e) (reads o noted _ f) ∙ sym p) g) (omega arith)
 
 -- what stood at a place, written there again
 at2_same : {A : Type 0} (f : ℕ → ℕ → A) (i j : ℕ) → at2 f i j (f i j) ≡ f
@@ -211,13 +212,13 @@ module _ (o : Opening) (memory : List ℕ) (sound : Sound o memory) (a b : ℕ) 
       both n (inr i) = was_posted n b i
 
   -- it is taken off the channel in one memory, and in the last it has arrived
-  pub carried_performed : (reach : Reach) → Reaches o (network_of o memory) b a e reach → room_for o (network_of o memory) b a k e ≡ None → (off last : List ℕ) → (many : ℕ) → many ≡ length reach.whom.items →
-      Encodes o off (with_channel (network_of o memory) a b ms) → Encodes o last (arrive (tree o) b a k e (network_of o off)) → Performed o memory (Carry a b) (Ok many) last
-  carried_performed reach h none off last many is f g =
+  pub carried_performed : (reach : Reach) → Reaches o (network_of o memory) b a e reach → room_for o (network_of o memory) b a k e ≡ None → (off last : List ℕ) →
+      Encodes o off (with_channel (network_of o memory) a b ms) → Encodes o last (arrive (tree o) b a k e (network_of o off)) → Performed o memory (Carry a b) (Ok reach.many) last
+  carried_performed reach h none off last f g =
       let s = network_of o memory in
       let p = carry_step o s a b beside k e ms oldest in
       let d = ap (λ u. length u.deliveries) p in
       let n = arrive_many (tree o) b a k e (with_channel s a b ms) in
       let m = deliveries_many o s b a e reach (edge_brokers o a b beside).1 h k in
-      done_performed o memory (Carry a b) many sound (carry_asks o s a b beside k e ms oldest ∙ none) last
+      done_performed o memory (Carry a b) reach.many sound (carry_asks o s a b beside k e ms oldest ∙ none) last
       (subst (Encodes o last) (ap (arrive (tree o) b a k e) (reads o off _ f) ∙ sym p) g) (omega arith)

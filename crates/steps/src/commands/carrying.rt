@@ -93,7 +93,7 @@ fn carry_notice(
     arriving::refused(memory, opening, to, source, number, numbers, &reach)?;
     take_oldest(memory, opening, from, to);
     arriving::arrive(memory, opening, to, source, number, notice, &reach);
-    Ok(reach.whom.len())
+    Ok(reach.many)
 }
 
 // The oldest message from one broker to another beside it arrives; where there is none, nothing happens.

@@ -34,5 +34,5 @@ pub fn post(
     arriving::refused(memory, opening, b, broker, number, numbers, &reach)?;
     log::note(&mut memory[at..end], number);
     arriving::arrive(memory, opening, b, broker, number, notice, &reach);
-    Ok(reach.whom.len())
+    Ok(reach.many)
 }

@@ -2,11 +2,12 @@ use Rattle.std.proofs.Common.{◌≡◌, ◌+◌, ◌*◌, ◌≤◌, ℕ, List,
 use Rattle.cover.specs.Table.{held}
 use Rattle.cover.specs.Rows.{listed}
 use Rattle.broker.specs.Subscribers.{subscriber, reached}
+use Rattle.broker.proofs.Fronts.{Front}
 use Rattle.broker.proofs.subscribers.deliver.Given as goal
 
 abbrev pub invariant-loop-slot : goal.invariant-loop-slot
-invariant-loop-slot g l =
+invariant-loop-slot l =
     (done : List (List ℕ))
     × (done ++ listed l.slot-iterator ≡ held (1 + 2 * l.m) l.part)
-    × (l.whom.items ≡ reached l.notice (map subscriber done))
-    × (length l.whom.items ≤ length done)
+    × Front (reached l.notice (map subscriber done)) l.initial.out l.out l.to
+    × (l.to ≤ length done)

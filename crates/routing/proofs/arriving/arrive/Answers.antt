@@ -1,4 +1,5 @@
-use Rattle.std.proofs.Common.{length, take, ap, arith}
+use Rattle.std.proofs.Common.{length, take, refl, ap, arith}
+use Rattle.std.proofs.lemmas.List.{length-take-le}
 use Rattle.layout.specs.State.{network_of}
 use Rattle.routing.specs.Rooms.{no_room_to_pass, no_room_to_deliver}
 use Rattle.routing.proofs.Arrivals.{first_none, goes_apart, goes_beside, goes_room, deliveries_room, arrived_now}
@@ -15,10 +16,8 @@ send_all-requires c =
     let (pass, _) = first_none _ _ c.requires.room in
     record {
       formed = c.requires.formed;
-      apart = rw c.as_slice.ensures.value (goes_apart o s b c.args.from e reach c.requires.there c.requires.reaches);
-      room = λ n t.
-          let u = rw c.as_slice.ensures.value at t in
-          (goes_beside o s b c.args.from e reach c.requires.there c.requires.reaches n u, goes_room o s b c.args.from e reach c.requires.there c.requires.reaches c.args.number pass n u);
+      apart = goes_apart o s b c.args.from e reach c.requires.there c.requires.reaches;
+      room = λ n t. (goes_beside o s b c.args.from e reach c.requires.there c.requires.reaches n t, goes_room o s b c.args.from e reach c.requires.there c.requires.reaches c.args.number pass n t);
     }
 
 pub write_down-requires : goal.write_down-requires
@@ -27,7 +26,7 @@ write_down-requires c =
     let s = network_of o c.args.memory.now in
     let e = take o.ranges c.args.notice.numbers in
     let reach = c.args.reach.now in
-    let f = ap length c.as_slice-2.ensures.value in
+    let f = length-take-le reach.many reach.whom c.requires.reaches.few.1 in
     let r = reads o c.send_all.new.memory _ c.send_all.ensures in
     let x = ap (λ u. length u.deliveries) r in
     let y = ap (λ u. length (u.arrived c.args.broker)) r in
@@ -48,4 +47,4 @@ returns c =
     let e = take o.ranges c.args.notice.numbers in
     let reach = c.args.reach.now in
     arrived_now o s c.args.broker c.args.from e reach c.requires.there c.requires.reaches c.args.number _ _ c.send_all.new.memory c.write_down.new.memory
-    c.as_slice.ensures.value c.as_slice-2.ensures.value c.send_all.ensures c.write_down.ensures
+    refl refl c.send_all.ensures c.write_down.ensures

@@ -1,4 +1,4 @@
-use Rattle.std.proofs.Common.{take, sym, refl, ◌∙◌, rules}
+use Rattle.std.proofs.Common.{take, sym, refl, ◌∙◌}
 use Rattle.model.specs.Model.{notice}
 use Rattle.layout.specs.State.{network_of}
 use Rattle.layout.specs.Changed.{with_channel}
@@ -57,4 +57,4 @@ returns c =
     carried_performed o memory c.requires.sound a b c.requires.beside k e c.requires.oldest.0 c.requires.oldest.1 c.find-reach.result
     c.find-reach.ensures
     (allowed_says _ _ _ c.in_ok-refused.ensures)
-    c.take_oldest.new.memory c.arrive.new.memory c.len.result (search rules) (c.take_oldest.ensures (notice k e) c.requires.oldest.0 c.requires.oldest.1) c.arrive.ensures
+    c.take_oldest.new.memory c.arrive.new.memory (c.take_oldest.ensures (notice k e) c.requires.oldest.0 c.requires.oldest.1) c.arrive.ensures

@@ -1,4 +1,4 @@
-use Rattle.std.proofs.Common.{◌≡◌, ◌-◌, ◌<◌, ltb, true, false, ◌∷◌, length, take, Some, sym, refl, ap, ◌∙◌, subst, arith, rules}
+use Rattle.std.proofs.Common.{◌≡◌, ◌-◌, ◌<◌, ltb, true, false, ◌∷◌, length, take, Some, sym, refl, ap, ◌∙◌, subst, arith}
 use borrow.Rule.Slice.PartMut.{put_mid}
 use Rattle.std.proofs.lemmas.Bool.{lt-ltb, le-ltb}
 use Rattle.model.specs.Tree.{has}
@@ -141,5 +141,5 @@ returns c =
     let d = goal.at.returns c in
     posted_performed o c.args.memory.now c.requires b c.args.number c.args.notice c.find-reach.result (rw i at c.in_ok-b.ensures.1) (rw i at c.find-reach.ensures) (free d.Else-lists)
     (asks d.Else-memory-at-ge-MOST_NOTICES (free d.Else-lists) ∙ rw i at (allowed_says _ _ _ c.in_ok-refused.ensures))
-    after c.arrive.new.memory c.len.result (search rules) (noted d.After-note)
+    after c.arrive.new.memory (noted d.After-note)
     (subst (λ a. Encodes o c.arrive.new.memory (arrive (tree o) a b c.args.number (take o.ranges c.args.notice.numbers) (network_of o after))) i c.arrive.ensures)
