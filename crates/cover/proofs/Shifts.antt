@@ -72,3 +72,11 @@ shifted_out d zs at end n h b ys e l z =
     let p = length_part (put_mid at (end - at) d ys) n end (omega arith) (omega arith) in
     let r : zs ≡ replicate {A = ℕ} n 0 = z ∙ ap (λ k. replicate {A = ℕ} k 0) p in
     ap (put_mid (end - n) (end - (end - n)) (put_mid at (end - at) d ys)) r ∙ shifted_over d (replicate n 0) at end n h b ys e
+
+-- .. where it was turned by as many words as go out
+pub turned_out : (d zs : List ℕ) (at end n : ℕ) → at + n ≤ end → end ≤ length d → (ys : List ℕ) (k : ℕ) → k ≡ n →
+    ys ≡ drop k (take (end - at) (drop at d)) ++ take k (take (end - at) (drop at d)) →
+    length (put_mid at (end - at) d ys) ≡ length d →
+    zs ≡ replicate (length (take (end - (end - n)) (drop (end - n) (put_mid at (end - at) d ys)))) 0 →
+    put_mid (end - n) (end - (end - n)) (put_mid at (end - at) d ys) zs ≡ take at d ++ (take (end - (at + n)) (drop (at + n) d) ++ (replicate n 0 ++ drop end d))
+turned_out d zs at end n h b ys k s e = shifted_out d zs at end n h b ys (rw s at e)

@@ -1,6 +1,6 @@
 use Rattle.std.proofs.Common.{refl, ◌∙◌, arith}
 use Rattle.layout.specs.Plan.{many_of}
-use Rattle.routing.proofs.Surrounded.{row_back, table_kept, found_more}
+use Rattle.routing.proofs.Surrounded.{row_edge, row_back, table_kept, found_more}
 use Rattle.layout.proofs.Written.{edge_brokers, link_within_o}
 use Rattle.routing.proofs.surroundings.surround.Goals as goal
 
@@ -16,8 +16,10 @@ pub place-at-requires : goal.place-at-requires
 unfolding many_of
 place-at-requires c =
     let o = c.args.opening.now in
-    let e = row_back o c.args.broker c.requires.there _ (c.as_slice-neighbour-items.ensures.value ∙ c.beside-beside.ensures) c.loop-neighbour.neighbour-index c.loop-neighbour-test.true in
-    rw c.link.ensures (link_within_o o _ c.args.broker e)
+    let beside = c.as_slice-neighbour-items.ensures.value ∙ c.beside-beside.ensures in
+    let to = link_within_o o _ _ (row_edge o c.args.broker c.requires.there _ beside c.loop-neighbour.neighbour-index c.loop-neighbour-test.true) in
+    let back = link_within_o o _ _ (row_back o c.args.broker c.requires.there _ beside c.loop-neighbour.neighbour-index c.loop-neighbour-test.true) in
+    omega (arith, c.link.ensures)
 
 pub loop-neighbour-preserved : goal.loop-neighbour-preserved
 loop-neighbour-preserved c =
