@@ -170,12 +170,6 @@ module _ {A : Type 0} (a : A) where
   second_of None (Some r) p = refl
   second_of (Some x) y p = absurd (let z : ◌≡◌ {A = ℕ} 0 1 = cc in omega arith)
 
--- the front of a list, as it is lent
-pub lent_front : (many : ℕ) (ns : List ℕ) → take (many - 0) (drop 0 ns) ≡ take many ns
-lent_front many ns =
-    let z : many - 0 ≡ many = omega arith in
-    rw z refl
-
 -- what was written to the front of a row, and that it is no longer than the row
 pub front_taken : (ns rest out : List ℕ) (many : ℕ) → out ≡ ns ++ rest → many ≡ length ns → take many out ≡ ns
 front_taken ns rest out many e n = ap (take many) e ∙ take_at ns rest many (sym n)

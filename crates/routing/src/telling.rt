@@ -1,8 +1,7 @@
 // A broker tells those beside it what it has to announce to each: first what is new, then what is no more.
 ghost use Rattle.std.specs.Prelude.{◌≡◌, ◌+◌, ◌*◌, ◌<◌, ◌≤◌, true, ◌++◌, length, None, nat_le};
-ghost use Rattle.cover.specs.Maximal.{minus};
 ghost use Rattle.cover.specs.Rows.{listed};
-ghost use Rattle.cover.specs.Table.{rows, held, laid, written};
+ghost use Rattle.cover.specs.Table.{held, laid};
 ghost use Rattle.broker.specs.Announcing.{Keeps};
 ghost use Rattle.model.specs.Tree.{edge};
 ghost use Rattle.model.specs.Model.{announcement, tell};
