@@ -1,13 +1,16 @@
 -- Numbers of four bytes, one after the other.
-use Rattle.std.proofs.Common.{◌≡◌, ℕ, zero, suc, ◌+◌, ◌*◌, ◌/◌, ◌<◌, ◌≤◌, true, List, [], ◌∷◌, ◌++◌, length, get_or, take, drop, refl, ap, ◌∙◌, arith, ltb-true}
+use Rattle.std.proofs.Common.{◌≡◌, ℕ, zero, suc, ◌+◌, ◌*◌, ◌/◌, ◌<◌, ◌≤◌, true, List, [], ◌∷◌, ◌++◌, length, get_or, take, drop, replicate, refl, ap, ◌∙◌, arith, ltb-true}
+use borrow.Rule.Slice.PartMut.{put_mid}
 use Rattle.std.proofs.Math.Nat.{div-div-eq-div-mul}
 use Rattle.std.proofs.lemmas.Nat.{le_bytes_4}
-use Rattle.std.proofs.lemmas.List.{get_or-take, get_or-drop, drop-drop, get_or-append-add, drop_more}
+use Rattle.std.proofs.lemmas.List.{length-take-le, length-replicate, get_or-take, get_or-drop, drop-drop, get_or-append-add, drop_more}
 use Rattle.std.proofs.lemmas.Bool.{and_parts}
 use Rattle.std.proofs.lemmas.Bool.Decides.{nat_tests}
 use Rattle.std.specs.Int.{w32, from_le_bytes, to_le_bytes}
 use Rattle.std.specs.List.{flat_map}
 use Rattle.std.specs.Simd.{first_chunks}
+use Rattle.filter.specs.Filter.{padded}
+use Rattle.filter.proofs.Padding.{padded_over}
 use Rattle.script.specs.Script.{number_at, numbers_at}
 use Rattle.script.specs.Writing.{four_bytes, small, all_small, Bytes}
 
@@ -53,6 +56,15 @@ chunk_number n i xs at h =
 pub length_numbers : (n : ℕ) (xs : List ℕ) (i : ℕ) → length (numbers_at n xs i) ≡ n
 length_numbers zero xs i = refl
 length_numbers (suc n) xs i = ap suc (length_numbers n xs (i + 4))
+
+-- read over the front of zeros they are filled up with zeros
+pub read_over : (room n : ℕ) (xs : List ℕ) (at : ℕ) (read : List ℕ) → n ≤ room →
+    read ≡ numbers_at (length (take n (replicate {A = ℕ} room 0))) xs at → put_mid 0 n (replicate room 0) read ≡ padded room (numbers_at n xs at)
+read_over room n xs at read h e =
+    let l = length_numbers n xs at in
+    let p = padded_over room (numbers_at n xs at) (omega arith) in
+    let t = length-take-le n (replicate {A = ℕ} room 0) (omega (arith, length-replicate {A = ℕ} room 0)) in
+    cc
 
 pub length_fours : (ns : List ℕ) → length (flat_map four_bytes ns) ≡ 4 * length ns
 length_fours [] = refl
